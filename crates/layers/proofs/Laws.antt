@@ -1,0 +1,268 @@
+-- Laws of the definitions of specs/: what a caller knows of them without opening them.
+-- Assumes nothing.
+use Prim.Native.Nat.{ℕ, _+_, _-_, _*_, _/_, _%_, _≤_}
+use mathlib.Core.Path.{_≡_, _∙_, ap, refl, sym, subst}
+use mathlib.Core.List.{List}
+use mathlib.Core.Bool.{Bool, true, false, cond, _&&_, _||_, false≢true, true≢false}
+use native.Mathlib.Omega.{arith}
+use lib.ListN.{length}
+use lib.Dec.{ltb}
+use borrow.Author.Tests.{ltb-false, leb-true}
+use Rattle.numbers.specs.Bytes.{byte}
+use Rattle.numbers.proofs.Lists.{cond-both, every-at}
+use Rattle.layers.specs.Layers.{
+  tagged,
+  tagOf,
+  linkOf,
+  words,
+  headerLength,
+  totalLength,
+  ipv4Tests,
+  ipv4Here,
+  packetAt,
+  ipOf,
+  unfragmented,
+  tcpTests,
+  tcpHere,
+  udpTests,
+  udpHere,
+  segmentAt,
+  datagramAt,
+  transportAt,
+  transportOf,
+  someipTests,
+  someipHere,
+  messageAt,
+  someipAt,
+  someipOf,
+  layersOf,
+  tooShort,
+  tooLong,
+  shortRefusal,
+  longRefusal,
+  shownOf,
+  numberOf,
+}
+use Rattle.layers.specs.Inside.{
+  TagInside,
+  PacketInside,
+  IpInside,
+  SegmentInside,
+  DatagramInside,
+  TransportInside,
+  MessageInside,
+  SomeipInside,
+  Inside,
+}
+use Rattle.layers.specs.declared.Link.{Link}
+use Rattle.layers.specs.declared.Packet.{Packet}
+use Rattle.layers.specs.declared.Ip.{Ip}
+use Rattle.layers.specs.declared.Ip.the-variants as ip
+use Rattle.layers.specs.declared.Segment.{Segment}
+use Rattle.layers.specs.declared.Datagram.{Datagram}
+use Rattle.layers.specs.declared.Transport.{Transport}
+use Rattle.layers.specs.declared.Transport.the-variants as transport
+use Rattle.layers.specs.declared.Message.{Message}
+use Rattle.layers.specs.declared.Someip.{Someip}
+use Rattle.layers.specs.declared.Someip.the-variants as someip
+use Rattle.layers.specs.declared.Layers.{Layers}
+use Rattle.layers.specs.declared.Shown.{Shown}
+use Rattle.layers.specs.declared.Shown.the-variants as shown
+
+-- ---- what a test that passed says of the lengths
+
+short-parts : (a b c : Bool) → (a || (b && c)) ≡ false → (a ≡ false) × (b ≡ true → c ≡ false)
+short-parts true b c e = absurd (true≢false e)
+short-parts false true c e = (refl, λ q. e)
+short-parts false false c e = (refl, λ q. absurd (false≢true q))
+
+pub short-fits : (s : List ℕ) → tooShort s ≡ false → (14 ≤ length s) × (tagged s ≡ true → 18 ≤ length s)
+unfolding tooShort
+short-fits s e =
+    let h = short-parts (ltb (length s) 14) (tagged s) (ltb (length s) 18) e in
+    (ltb-false _ _ (h .0), λ q. ltb-false _ _ (h .1 q))
+
+pub record Ipv4Fits (s : List ℕ) (at : ℕ) : Type 0 where
+  pub rest : at + 20 ≤ length s
+  pub header : headerLength s at ≤ totalLength s at
+  pub words : 5 ≤ words s at
+  pub total : at + totalLength s at ≤ length s
+
+pub ipv4-fits : (s : List ℕ) (ether at : ℕ) → ipv4Here s ether at ≡ true → Ipv4Fits s at
+unfolding ipv4Here ipv4Tests
+ipv4-fits s ether at e =
+    let ts = ipv4Tests s ether at in
+    let h : 20 ≤ length s - at = leb-true _ _ (every-at ts 1 e) in
+    let w : 5 ≤ byte s at % 16 = leb-true _ _ (every-at ts 3 e) in
+    let l : headerLength s at ≤ totalLength s at = leb-true _ _ (every-at ts 4 e) in
+    let t : totalLength s at ≤ length s - at = leb-true _ _ (every-at ts 5 e) in
+    record { rest = omega arith; header = l; words = w; total = omega arith }
+
+-- what packet_at asks
+pub ipv4-room :
+    (s : List ℕ) (ether at : ℕ) → ipv4Here s ether at ≡ true
+    → (at + 20 ≤ length s) × (headerLength s at ≤ totalLength s at)
+ipv4-room s ether at e = let f = ipv4-fits s ether at e in (f .rest, f .header)
+
+module _ (s : List ℕ) (protocol at len : ℕ) where
+  pub tcp-fits : tcpHere s protocol at len ≡ true → (20 ≤ len) × ((5 ≤ byte s (at + 12) / 16) × (4 * (byte s (at + 12) / 16) ≤ len))
+  unfolding tcpHere tcpTests
+  tcp-fits e =
+      let ts = tcpTests s protocol at len in
+      (leb-true _ _ (every-at ts 1 e), (leb-true _ _ (every-at ts 2 e), leb-true _ _ (every-at ts 3 e)))
+
+  pub udp-fits : udpHere s protocol at len ≡ true → 8 ≤ len
+  unfolding udpHere udpTests
+  udp-fits e = leb-true _ _ (every-at (udpTests s protocol at len) 1 e)
+
+pub someip-fits : (s : List ℕ) (at len : ℕ) → someipHere s at len ≡ true → 16 ≤ len
+unfolding someipHere someipTests
+someip-fits s at len e = leb-true _ _ (every-at (someipTests s at len) 0 e)
+
+-- ---- each layer lies within the frame
+
+pub link-inside : (s : List ℕ) → tooShort s ≡ false → (linkOf s .hlen ≤ length s) × TagInside (linkOf s .tag)
+unfolding linkOf tagOf
+link-inside s e =
+    cond-both (λ (l : Link). (l .hlen ≤ length s) × TagInside (l .tag)) (tagged s) _ _
+    (λ q. (short-fits s e .1 q, omega arith))
+    (λ q. (short-fits s e .0, tt))
+
+pub ip-inside : (s : List ℕ) (ether at : ℕ) → IpInside s (ipOf s ether at)
+unfolding ipOf packetAt
+ip-inside s ether at =
+    cond-both (IpInside s) (ipv4Here s ether at) _ _
+    (λ h.
+    let f = ipv4-fits s ether at h in
+    let w = f .words in
+    let l = f .header in
+    let t = f .total in
+    record { words = omega arith; joined = refl; payload = omega arith })
+    (λ h. tt)
+
+at-inside : (s : List ℕ) (protocol at len : ℕ) → at + len ≤ length s → TransportInside s (transportAt s protocol at len)
+unfolding transportAt segmentAt datagramAt
+at-inside s protocol at len b =
+    cond-both (TransportInside s) (tcpHere s protocol at len) _ _
+    (λ h.
+    let f = tcp-fits s protocol at len h in
+    let w = f .1 .0 in
+    let l = f .1 .1 in
+    record { words = omega arith; header = omega arith })
+    (λ h. cond-both (TransportInside s) (udpHere s protocol at len) _ _
+    (λ k.
+    let l = udp-fits s protocol at len k in
+    record { joined = refl; payload = omega arith })
+    (λ k. tt))
+
+pub transport-inside : (s : List ℕ) (i : Ip) → IpInside s i → TransportInside s (transportOf s i)
+unfolding transportOf
+transport-inside s ip.Absent w = tt
+transport-inside s (ip.V4 p) w =
+    cond-both (TransportInside s) (unfragmented s (p .header)) _ _
+    (λ h. at-inside s (p .protocol) (p .payload) (p .plen) (w .payload))
+    (λ h. tt)
+
+pub someip-inside : (s : List ℕ) (t : Transport) → TransportInside s t → SomeipInside s (someipOf s t)
+unfolding someipOf someipAt messageAt
+someip-inside s transport.Absent w = tt
+someip-inside s (transport.Tcp t) w = tt
+someip-inside s (transport.Udp u) w =
+    cond-both (SomeipInside s) (someipHere s (u .payload) (u .plen)) _ _
+    (λ h. record { header = omega (arith, w .payload, someip-fits s (u .payload) (u .plen) h) })
+    (λ h. tt)
+
+over : (s : List ℕ) (m : Message) (t : Transport) → someipOf s t ≡ someip.Present m → (u : Datagram) × (t ≡ transport.Udp u)
+unfolding someipOf
+over s m transport.Absent q = let z : _≡_ {A = ℕ} 0 1 = cc in absurd (omega arith)
+over s m (transport.Tcp t) q = let z : _≡_ {A = ℕ} 0 1 = cc in absurd (omega arith)
+over s m (transport.Udp u) q = (u, refl)
+
+-- ---- what an answer that shows the layers says
+
+pub shows-is : (s : List ℕ) (l : Layers) → shownOf s ≡ shown.Shows l → (tooShort s ≡ false) × (length s ≤ 1518) × (layersOf s ≡ l)
+unfolding shownOf
+shows-is s =
+    let P : Shown → Type 0 =
+    λ (r : Shown). (l : Layers) → r ≡ shown.Shows l → (tooShort s ≡ false) × (length s ≤ 1518) × (layersOf s ≡ l) in
+    cond-both P (tooShort s) _ _
+    (λ h l q. let z : _≡_ {A = ℕ} 0 1 = cc in absurd (omega arith))
+    (λ h. cond-both P (tooLong s) _ _
+    (λ k l q. let z : _≡_ {A = ℕ} 0 1 = cc in absurd (omega arith))
+    (λ k l q. (h, ltb-false 1518 (length s) k, cc)))
+
+-- each layer is read in what the one below it leaves
+module _ (s : List ℕ) (l : Layers) (e : shownOf s ≡ shown.Shows l) where
+  pub link-is : l .link ≡ linkOf s
+  unfolding layersOf
+  link-is = subst (λ (x : Layers). x .link ≡ linkOf s) (shows-is s l e .2) refl
+
+  pub ip-is : l .ip ≡ ipOf s (l .link .ether) (l .link .hlen)
+  unfolding layersOf
+  ip-is = subst (λ (x : Layers). x .ip ≡ ipOf s (x .link .ether) (x .link .hlen)) (shows-is s l e .2) refl
+
+  pub transport-is : l .transport ≡ transportOf s (l .ip)
+  unfolding layersOf
+  transport-is = subst (λ (x : Layers). x .transport ≡ transportOf s (x .ip)) (shows-is s l e .2) refl
+
+  pub someip-is : l .someip ≡ someipOf s (l .transport)
+  unfolding layersOf
+  someip-is = subst (λ (x : Layers). x .someip ≡ someipOf s (x .transport)) (shows-is s l e .2) refl
+
+  -- all of them lie within the frame
+  pub shows-inside : Inside s l
+  unfolding layersOf
+  shows-inside =
+      let h = shows-is s l e in
+      let a = linkOf s in
+      let i = ipOf s (a .ether) (a .hlen) in
+      let wl = link-inside s (h .0) in
+      let wi = ip-inside s (a .ether) (a .hlen) in
+      let wt = transport-inside s i wi in
+      subst (Inside s) (h .2)
+      (record {
+        size = h .1;
+        link = wl .0;
+        tag = wl .1;
+        ip = wi;
+        transport = wt;
+        someip = someip-inside s (transportOf s i) wt;
+      })
+
+  -- no transport without IP
+  pub no-transport : l .ip ≡ ip.Absent → l .transport ≡ transport.Absent
+  unfolding transportOf
+  no-transport q = transport-is ∙ ap (transportOf s) q
+
+  -- SOME/IP over UDP alone
+  pub someip-udp : (m : Message) → l .someip ≡ someip.Present m → (u : Datagram) × (l .transport ≡ transport.Udp u)
+  someip-udp m q = over s m (l .transport) (sym someip-is ∙ q)
+
+-- of a layer that a caller has found
+module _ (s : List ℕ) (l : Layers) (w : Inside s l) where
+  pub packet-inside : (p : Packet) → l .ip ≡ ip.V4 p → PacketInside s p
+  packet-inside p e = subst (IpInside s) e (w .ip)
+
+  pub segment-inside : (t : Segment) → l .transport ≡ transport.Tcp t → SegmentInside s t
+  segment-inside t e = subst (TransportInside s) e (w .transport)
+
+  pub datagram-inside : (u : Datagram) → l .transport ≡ transport.Udp u → DatagramInside s u
+  datagram-inside u e = subst (TransportInside s) e (w .transport)
+
+  pub message-inside : (m : Message) → l .someip ≡ someip.Present m → MessageInside s m
+  message-inside m e = subst (SomeipInside s) e (w .someip)
+
+-- ---- one answer for each frame
+
+pub read-unique : (s : List ℕ) (r r' : Shown) → r ≡ shownOf s → r' ≡ shownOf s → r ≡ r'
+read-unique s r r' e f = e ∙ sym f
+
+-- its number: 1 and 2 exactly when 01 says, 0 where the layers are shown
+pub number-is : (s : List ℕ) → numberOf (shownOf s) ≡ cond (tooShort s) 1 (cond (tooLong s) 2 0)
+unfolding shownOf
+number-is s = go (tooShort s) (tooLong s)
+  where
+    go : (a b : Bool) → numberOf (cond a (shown.Refused shortRefusal) (cond b (shown.Refused longRefusal) (shown.Shows (layersOf s)))) ≡ cond a 1 (cond b 2 0)
+    go true b = refl
+    go false true = refl
+    go false false = refl

@@ -1,0 +1,4 @@
+pub mod Laws
+pub mod OnIp
+pub mod OnTransport
+pub mod OnFrame
