@@ -1,0 +1,114 @@
+-- Who decides: the search for the first active rule that matches, and what its outcome tells.
+-- Assumes nothing.
+use Prim.Native.Nat.{ℕ, _+_, _-_, _<_, _≤_}
+use mathlib.Core.Path.{_≡_, refl, sym, ap, _∙_}
+use mathlib.Core.List.{List}
+use mathlib.Core.Bool.{Bool, true, false, _&&_, cond, false≢true}
+use native.Mathlib.Omega.{arith}
+use borrow.Author.Tests.{lt-ltb, le-ltb, ltb-true, ltb-false}
+use lib.Dec.{ltb}
+use Rattle.numbers.specs.Lists.{every, firstFrom, first}
+use Rattle.numbers.proofs.Lists.{and-both, every-at, first-here, first-next, first-none, first-le, first-holds, first-before}
+use Rattle.layers.specs.declared.Segment.{Segment}
+use Rattle.layers.specs.declared.Transport.{Transport}
+use Rattle.layers.specs.declared.Transport.the-variants as transport
+use Rattle.layers.specs.declared.Layers.{Layers}
+use Rattle.table.specs.declared.Kind.the-variants as kind
+use Rattle.table.specs.declared.KindSetting.{KindSetting}
+use Rattle.table.specs.declared.KindSetting.the-variants as setKind
+use Rattle.table.specs.declared.TransportSettings.{TransportSettings}
+use Rattle.table.specs.declared.Rule.{Rule}
+use Rattle.table.specs.declared.Table.{Table}
+use Rattle.table.specs.Settings.{ofKind}
+use Rattle.table.specs.Table.{ruleAt, active, isTcp}
+use Rattle.matching.specs.Matching.{transportMatches, layerTests, ruleMatches, decides, deciderOf}
+
+module _ (t : Table) (state : ℕ) (s : List ℕ) (l : Layers) where
+  -- a loop that has passed i places finds the decider there
+  pub decider-here :
+      (i : ℕ) → i < t .rulecount
+      → firstFrom (decides t state s l) i (t .rulecount - i) ≡ first (decides t state s l) (t .rulecount)
+      → true ≡ (active t state i && every (layerTests (ruleAt t i) s l)) → i ≡ deciderOf t state s l
+  unfolding deciderOf decides ruleMatches
+  decider-here i h f e =
+      let g : first (decides t state s l) (t .rulecount) ≡ i = sym f ∙ first-here (decides t state s l) (t .rulecount) i h (sym e) in
+      rw (g, lt-ltb i (t .rulecount) h)
+
+  -- or not
+  pub decider-next :
+      (i : ℕ) → i < t .rulecount
+      → firstFrom (decides t state s l) i (t .rulecount - i) ≡ first (decides t state s l) (t .rulecount)
+      → false ≡ (active t state i && every (layerTests (ruleAt t i) s l))
+      → firstFrom (decides t state s l) (i + 1) (t .rulecount - (i + 1)) ≡ first (decides t state s l) (t .rulecount)
+  unfolding decides ruleMatches
+  decider-next i h f e = sym (first-next (decides t state s l) (t .rulecount) i h (sym e)) ∙ f
+
+  -- or nowhere
+  pub decider-none :
+      (i : ℕ) → t .rulecount ≤ i
+      → firstFrom (decides t state s l) i (t .rulecount - i) ≡ first (decides t state s l) (t .rulecount)
+      → 64 ≡ deciderOf t state s l
+  unfolding deciderOf
+  decider-none i h f =
+      let g : first (decides t state s l) (t .rulecount) ≡ i = sym f ∙ first-none (decides t state s l) (t .rulecount) i h in
+      rw (g, le-ltb i (t .rulecount) h)
+
+  -- a rule that decides is active and matches, and no earlier one does
+  abbrev pub Decides : ℕ → Type 0
+  Decides d =
+      (d < t .rulecount)
+      × (active t state d ≡ true)
+      × (ruleMatches (ruleAt t d) s l ≡ true)
+      × ((j : ℕ) → j < d → decides t state s l j ≡ false)
+
+  found : (i d : ℕ) → i ≡ d → i < t .rulecount → decides t state s l i ≡ true → ((j : ℕ) → j < i → decides t state s l j ≡ false) → Decides d
+  unfolding decides
+  found i d q m y z =
+      let k = and-both (active t state d) (ruleMatches (ruleAt t d) s l) (rw (← q) y) in
+      (omega arith, k .0, k .1, λ j n. z j (omega arith))
+
+  pub decider-is : (d : ℕ) → deciderOf t state s l ≡ d → d < 64 → Decides d
+  unfolding deciderOf
+  decider-is d e h = go (ltb (first (decides t state s l) (t .rulecount)) (t .rulecount)) refl e
+    where
+      go : (b : Bool) → ltb (first (decides t state s l) (t .rulecount)) (t .rulecount) ≡ b → cond b (first (decides t state s l) (t .rulecount)) 64 ≡ d → Decides d
+      go true p q =
+          let m = ltb-true (first (decides t state s l) (t .rulecount)) (t .rulecount) p in
+          found (first (decides t state s l) (t .rulecount)) d q m (first-holds (decides t state s l) (t .rulecount) m) (first-before (decides t state s l) (t .rulecount))
+      go false p q = absurd (omega arith)
+
+  -- where the default decides, no rule does
+  pub decider-default : t .rulecount ≤ 64 → deciderOf t state s l ≡ 64 → (i : ℕ) → i < t .rulecount → decides t state s l i ≡ false
+  unfolding deciderOf
+  decider-default small e i h = go (ltb (first (decides t state s l) (t .rulecount)) (t .rulecount)) refl e
+    where
+      go : (b : Bool) → ltb (first (decides t state s l) (t .rulecount)) (t .rulecount) ≡ b → cond b (first (decides t state s l) (t .rulecount)) 64 ≡ 64 → decides t state s l i ≡ false
+      go true p q = absurd (omega (arith, ltb-true (first (decides t state s l) (t .rulecount)) (t .rulecount) p))
+      go false p q = first-before (decides t state s l) (t .rulecount) i (omega (arith, ltb-false (first (decides t state s l) (t .rulecount)) (t .rulecount) p))
+
+  pub decider-small : t .rulecount ≤ 64 → deciderOf t state s l ≤ 64
+  unfolding deciderOf
+  decider-small small = go (ltb (first (decides t state s l) (t .rulecount)) (t .rulecount))
+    where
+      go : (b : Bool) → cond b (first (decides t state s l) (t .rulecount)) 64 ≤ 64
+      go true = omega (arith, first-le (decides t state s l) (t .rulecount))
+      go false = omega arith
+
+-- a transport that a rule of kind TCP matches is a segment
+tcp-transport :
+    (r : TransportSettings) (x : Transport) (k : KindSetting) → r .kind ≡ k → isTcp (ofKind k) ≡ true → transportMatches r x ≡ true
+    → (g : Segment) × (x ≡ transport.Tcp g)
+unfolding transportMatches
+tcp-transport r (transport.Tcp g) k e h m = (g, refl)
+tcp-transport r transport.Absent setKind.Unset e h m = absurd (false≢true h)
+tcp-transport r transport.Absent (setKind.Set kind.Udp) e h m = absurd (false≢true h)
+tcp-transport r transport.Absent (setKind.Set kind.Tcp) e h m = absurd (false≢true (rw e at m))
+tcp-transport r (transport.Udp u) setKind.Unset e h m = absurd (false≢true h)
+tcp-transport r (transport.Udp u) (setKind.Set kind.Udp) e h m = absurd (false≢true h)
+tcp-transport r (transport.Udp u) (setKind.Set kind.Tcp) e h m = absurd (false≢true (rw e at m))
+
+pub matches-tcp :
+    (r : Rule) (s : List ℕ) (l : Layers) → ruleMatches r s l ≡ true → isTcp (ofKind (r .transport .kind)) ≡ true
+    → (g : Segment) × (l .transport ≡ transport.Tcp g)
+unfolding ruleMatches layerTests
+matches-tcp r s l e h = tcp-transport (r .transport) (l .transport) (r .transport .kind) refl h (every-at (layerTests r s l) 2 e)

@@ -1,0 +1,180 @@
+-- The best fit: the first place with the greatest score.
+-- Assumes nothing.
+use Prim.Native.Nat.{ℕ, zero, suc, _+_, _-_, _<_, _≤_, max}
+use mathlib.Core.Path.{_≡_, refl, sym, subst}
+use mathlib.Core.List.{List, [], _∷_}
+use mathlib.Core.Bool.{Bool, true, false, _&&_, cond, false≢true, true≢false}
+use native.Mathlib.Nat.{le-of-lt, max-eq-left, max-eq-right}
+use native.Mathlib.Numerals.{add-one}
+use native.Mathlib.Omega.{arith}
+use borrow.Author.Tests.{eqb-true, eqb-false, eq-eqb, ne-eqb, ltb-true, ltb-false}
+use lib.Dec.{eqb, ltb}
+use lib.ListN.{length}
+use Rattle.numbers.specs.Lists.{every, first}
+use Rattle.numbers.proofs.Lists.{cond-both, first-is, last-or-below}
+use Rattle.layers.specs.declared.Layers.{Layers}
+use Rattle.table.specs.declared.Table.{Table}
+use Rattle.table.specs.Table.{ruleAt, active}
+use Rattle.matching.specs.Matching.{layerTests, ruleMatches, decides, deciderOf}
+use Rattle.matching.specs.Best.{leading, scoreOf, greatest, bestOf}
+use Rattle.matching.specs.declared.Best.{Best}
+use Rattle.matching.proofs.Deciders.{decider-default}
+use Rattle.matching.proofs.Leading.{leading-small, leading-short}
+
+-- of the places below i, `place` is the first with the greatest score, 64 where every score is 0
+pub record Fits (f : ℕ → ℕ) (i place most : ℕ) : Type 0 where
+  pub top : most ≡ greatest f i
+  pub none : most ≡ 0 → place ≡ 64
+  pub inside : 0 < most → place < i
+  pub held : 0 < most → f place ≡ most
+  pub earlier : 0 < most → (j : ℕ) → j < place → f j < most
+  pub below : (j : ℕ) → j < i → f j ≤ most
+
+pub fits-start : (f : ℕ → ℕ) → Fits f 0 64 0
+unfolding greatest
+fits-start f =
+    record {
+      top = refl;
+      none = λ e. refl;
+      inside = λ h. absurd (omega arith);
+      held = λ h. absurd (omega arith);
+      earlier = λ h j k. absurd (omega arith);
+      below = λ j k. absurd (omega arith);
+    }
+
+-- a greater score comes
+fits-more : (f : ℕ → ℕ) (i place most : ℕ) → Fits f i place most → most < f i → Fits f (i + 1) i (f i)
+unfolding greatest
+fits-more f i place most q h =
+    record {
+      top = rw (add-one i, ← q .top, max-eq-right (le-of-lt h));
+      none = λ e. absurd (omega arith);
+      inside = λ k. omega arith;
+      held = λ k. refl;
+      earlier = λ k j m. omega (arith, q .below j m);
+      below = λ j m. last-or-below (λ (k : ℕ). f k ≤ f i) i j (omega arith) (omega arith) (λ k. omega (arith, q .below j k));
+    }
+
+-- or none
+fits-same : (f : ℕ → ℕ) (i place most : ℕ) → Fits f i place most → f i ≤ most → Fits f (i + 1) place most
+unfolding greatest
+fits-same f i place most q h =
+    record {
+      top = rw (add-one i, ← q .top, max-eq-left h);
+      none = q .none;
+      inside = λ k. omega (arith, q .inside k);
+      held = q .held;
+      earlier = q .earlier;
+      below = λ j m. last-or-below (λ (k : ℕ). f k ≤ most) i j (omega arith) h (λ k. q .below j k);
+    }
+
+-- a turn of the loop, with n the score at i
+pub fits-taken :
+    (f : ℕ → ℕ) (i place most n place' most' : ℕ) → Fits f i place most → n ≡ f i → most < n → place' ≡ i → most' ≡ n
+    → Fits f (i + 1) place' most'
+fits-taken f i place most n place' most' q e h a b = rw (a, b, e) (fits-more f i place most q (rw e at h))
+
+pub fits-left :
+    (f : ℕ → ℕ) (i place most n place' most' : ℕ) → Fits f i place most → n ≡ f i → n ≤ most → place' ≡ place → most' ≡ most
+    → Fits f (i + 1) place' most'
+fits-left f i place most n place' most' q e h a b = rw (a, b) (fits-same f i place most q (rw e at h))
+
+-- there is such a place
+fits : (f : ℕ → ℕ) (n : ℕ) → (place : ℕ) × Fits f n place (greatest f n)
+unfolding greatest
+fits f zero = (64, fits-start f)
+fits f (suc n) = go (fits f n) (ltb (greatest f n) (f n)) refl
+  where
+    go : ((place : ℕ) × Fits f n place (greatest f n)) → (b : Bool) → ltb (greatest f n) (f n) ≡ b → (place : ℕ) × Fits f (suc n) place (max (greatest f n) (f n))
+    go q true e =
+        let h : greatest f n < f n = ltb-true (greatest f n) (f n) e in
+        (n, rw (← add-one n, max-eq-right (le-of-lt h)) (fits-more f n (q .0) (greatest f n) (q .1) h))
+    go q false e =
+        let h : f n ≤ greatest f n = ltb-false (greatest f n) (f n) e in
+        (q .0, rw (← add-one n, max-eq-left h) (fits-same f n (q .0) (greatest f n) (q .1) h))
+
+module _ (t : Table) (state : ℕ) (s : List ℕ) (l : Layers) where
+  -- the best fit, as the loop has it at its end
+  none-fits : (place : ℕ) → Fits (scoreOf t state s l) (t .rulecount) place 0 → _≡_ {A = Best} (record { place = 64; layer = 0 }) (bestOf t state s l)
+  unfolding bestOf
+  none-fits place q = rw (← q .top)
+
+  best-fits :
+      (place most : ℕ) → (most ≡ 0 → ⊥) → Fits (scoreOf t state s l) (t .rulecount) place most
+      → _≡_ {A = Best} (record { place = place; layer = most - 1 }) (bestOf t state s l)
+  unfolding bestOf
+  best-fits place most ne q =
+      let h : 0 < most = omega (arith, ne) in
+      let p : first (λ i. eqb (scoreOf t state s l i) most) (t .rulecount) ≡ place =
+      first-is (λ i. eqb (scoreOf t state s l i) most) (t .rulecount) place (q .inside h) (eq-eqb (scoreOf t state s l place) most (q .held h))
+      (λ j k. ne-eqb (scoreOf t state s l j) most (λ e. absurd (omega (arith, q .earlier h j k, e)))) in
+      rw (← q .top, ne-eqb most 0 ne, p)
+
+  pub fits-none :
+      (i place most : ℕ) → i ≡ t .rulecount → most ≡ 0 → Fits (scoreOf t state s l) i place most
+      → _≡_ {A = Best} (record { place = 64; layer = 0 }) (bestOf t state s l)
+  fits-none i place most e z q = none-fits place (rw (e, z) at q)
+
+  pub fits-best :
+      (i place most : ℕ) → i ≡ t .rulecount → (most ≡ 0 → ⊥) → Fits (scoreOf t state s l) i place most
+      → _≡_ {A = Best} (record { place = place; layer = most - 1 }) (bestOf t state s l)
+  fits-best i place most e ne q = best-fits place most ne (rw e at q)
+
+  -- the best fit is such a place
+  best-none : greatest (scoreOf t state s l) (t .rulecount) ≡ 0 → bestOf t state s l ≡ record { place = 64; layer = 0 }
+  unfolding bestOf
+  best-none e = rw e
+
+  best-some :
+      (greatest (scoreOf t state s l) (t .rulecount) ≡ 0 → ⊥)
+      → (place : ℕ)
+      × Fits (scoreOf t state s l) (t .rulecount) place (greatest (scoreOf t state s l) (t .rulecount))
+      × (bestOf t state s l ≡ record { place = place; layer = greatest (scoreOf t state s l) (t .rulecount) - 1 })
+  best-some ne =
+      let q = fits (scoreOf t state s l) (t .rulecount) in
+      (q .0, q .1, sym (best-fits (q .0) (greatest (scoreOf t state s l) (t .rulecount)) ne (q .1)))
+
+  -- what holds of both
+  best-both :
+      (P : Best → Type 0) → P (record { place = 64; layer = 0 })
+      → ((place most : ℕ) → 0 < most → Fits (scoreOf t state s l) (t .rulecount) place most → P (record { place = place; layer = most - 1 }))
+      → P (bestOf t state s l)
+  best-both P a b = go (eqb (greatest (scoreOf t state s l) (t .rulecount)) 0) refl
+    where
+      go : (c : Bool) → eqb (greatest (scoreOf t state s l) (t .rulecount)) 0 ≡ c → P (bestOf t state s l)
+      go true e = subst P (sym (best-none (eqb-true (greatest (scoreOf t state s l) (t .rulecount)) 0 e))) a
+      go false e =
+          let ne = eqb-false (greatest (scoreOf t state s l) (t .rulecount)) 0 e in
+          let q = best-some ne in
+          subst P (sym (q .2)) (b (q .0) (greatest (scoreOf t state s l) (t .rulecount)) (omega (arith, ne)) (q .1))
+
+  score-small : (i : ℕ) → scoreOf t state s l i ≤ 5
+  unfolding scoreOf
+  score-small i = cond-both (λ (n : ℕ). n ≤ 5) (active t state i) _ _ (λ e. omega (arith, leading-small (ruleAt t i) s l)) (λ e. omega arith)
+
+  score-open : (i : ℕ) → decides t state s l i ≡ false → scoreOf t state s l i ≤ 4
+  unfolding scoreOf decides
+  score-open i e =
+      cond-both (λ (n : ℕ). n ≤ 4) (active t state i) _ _ (λ f. omega (arith, leading-short (ruleAt t i) s l (rw f at e))) (λ f. omega arith)
+
+  score-active : (i : ℕ) → 0 < scoreOf t state s l i → active t state i ≡ true
+  unfolding scoreOf
+  score-active i = cond-both (λ (n : ℕ). 0 < n → active t state i ≡ true) (active t state i) _ _ (λ e h. e) (λ e h. absurd (omega arith))
+
+  pub best-place : t .rulecount ≤ 64 → bestOf t state s l .place ≤ 64
+  best-place small = best-both (λ (b : Best). b .place ≤ 64) (omega arith) (λ place most h q. omega (arith, q .inside h))
+
+  pub best-layer : bestOf t state s l .layer ≤ 4
+  best-layer = best-both (λ (b : Best). b .layer ≤ 4) (omega arith) (λ place most h q. omega (arith, q .held h, score-small place))
+
+  -- where no rule decides, a layer of the best fit does not match
+  pub best-open : t .rulecount ≤ 64 → deciderOf t state s l ≡ 64 → bestOf t state s l .layer ≤ 3
+  best-open small e =
+      best-both (λ (b : Best). b .layer ≤ 3) (omega arith)
+      (λ place most h q. omega (arith, q .held h, score-open place (decider-default t state s l small e place (q .inside h))))
+
+  -- a place that fits best has an active rule
+  pub best-active : bestOf t state s l .place < 64 → (bestOf t state s l .place < t .rulecount) × (active t state (bestOf t state s l .place) ≡ true)
+  best-active =
+      best-both (λ (b : Best). b .place < 64 → (b .place < t .rulecount) × (active t state (b .place) ≡ true)) (λ k. absurd (omega arith))
+      (λ place most h q k. (q .inside h, score-active place (omega (arith, q .held h))))

@@ -1,0 +1,4 @@
+pub mod Agreeing
+pub mod Deciders
+pub mod Leading
+pub mod Fitting

@@ -1,0 +1,59 @@
+use mathlib.Core.Path.{refl}
+use Rattle.table.proofs.Chains.{stops, goes, ends}
+use Rattle.matching.specs.Matching.{ruleMatches, layerTests}
+use borrow.Author.Needs.{needs}
+use Rattle.matching.proofs.rules.rule_matches.Statement.{statement}
+use Rattle.matching.proofs.rules.rule_matches.Tie as tie
+
+link-matches-requires : tie.Need-link-matches-requires
+link-matches-requires c κs = search needs
+
+returns : tie.Need-returns
+unfolding ruleMatches layerTests
+returns c = stops _ (c .before .link-matches .ensures) (c .if1 .taken)
+
+ipv4-matches-requires : tie.Need-ipv4-matches-requires
+ipv4-matches-requires c κs = search needs
+
+returns-2 : tie.Need-returns-2
+unfolding ruleMatches layerTests
+returns-2 c =
+    let a = c .before .before in
+    goes (a .before .link-matches .ensures) (a .if1 .left) (stops _ (c .before .ipv4-matches .ensures) (c .if2 .taken))
+
+transport-matches-requires : tie.Need-transport-matches-requires
+transport-matches-requires c κs = search needs
+
+returns-3 : tie.Need-returns-3
+unfolding ruleMatches layerTests
+returns-3 c =
+    let b = c .before .before in
+    let a = b .before .before in
+    goes (a .before .link-matches .ensures) (a .if1 .left)
+    (goes (b .before .ipv4-matches .ensures) (b .if2 .left) (stops _ (c .before .transport-matches .ensures) (c .if3 .taken)))
+
+someip-matches-requires : tie.Need-someip-matches-requires
+someip-matches-requires c κs = search needs
+
+returns-4 : tie.Need-returns-4
+unfolding ruleMatches layerTests
+returns-4 c =
+    let d = c .before in
+    let b = d .before .before in
+    let a = b .before .before in
+    goes (a .before .link-matches .ensures) (a .if1 .left)
+    (goes (b .before .ipv4-matches .ensures) (b .if2 .left)
+    (goes (d .before .transport-matches .ensures) (d .if3 .left) (ends (c .someip-matches .ensures) refl)))
+
+pub rule-matches-spec : {M : Type 1} → statement M
+rule-matches-spec =
+    tie.close
+    (tie.spec
+    link-matches-requires
+    returns
+    ipv4-matches-requires
+    returns-2
+    transport-matches-requires
+    returns-3
+    someip-matches-requires
+    returns-4)

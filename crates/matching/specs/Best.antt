@@ -1,0 +1,36 @@
+-- The best fit. Document 01, 'Verdicts, events, refusals', in 000's layer wording.
+-- Assumes nothing.
+use Prim.Native.Nat.{ℕ, zero, suc, _-_, max}
+use mathlib.Core.List.{List, [], _∷_}
+use mathlib.Core.Bool.{Bool, true, false, cond}
+use lib.Dec.{eqb}
+use Rattle.numbers.specs.Lists.{first}
+use Rattle.layers.specs.declared.Layers.{Layers}
+use Rattle.table.specs.declared.Table.{Table}
+use Rattle.table.specs.Table.{ruleAt, active}
+use Rattle.matching.specs.Matching.{layerTests}
+use Rattle.matching.specs.declared.Best.{Best}
+
+-- "count the matching layers from link upward to the first that doesn't match"
+abbrev pub leading : List Bool → ℕ
+leading [] = 0
+leading (b ∷ bs) = cond b (suc (leading bs)) 0
+
+-- "per active rule": one more than its count, and 0 for a rule that is not active
+unfoldable pub scoreOf : Table → ℕ → List ℕ → Layers → ℕ → ℕ
+scoreOf t state s l i = cond (active t state i) (suc (leading (layerTests (ruleAt t i) s l))) 0
+
+-- the greatest of f below n
+unfoldable pub greatest : (ℕ → ℕ) → ℕ → ℕ
+greatest f zero = 0
+greatest f (suc n) = max (greatest f n) (f n)
+
+-- "The first rule with the greatest count", its place, and its next layer: 0 link, 1 IP, 2 transport, 3 SOME/IP.
+-- "With no active rule: link", and place 64, which has no rule
+unfoldable pub bestOf : Table → ℕ → List ℕ → Layers → Best
+bestOf t state s l =
+    let score = scoreOf t state s l in
+    let most = greatest score (t .rulecount) in
+    cond (eqb most 0)
+    (record { place = 64; layer = 0 })
+    (record { place = first (λ i. eqb (score i) most) (t .rulecount); layer = most - 1 })

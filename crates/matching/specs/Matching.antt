@@ -1,0 +1,147 @@
+-- Does a layer match, does a rule, and who decides. Document 01, 'Rules and vehicle states' and step 3.
+-- s is the frame's bytes, and l the layers that were read from them.
+-- Assumes nothing.
+use Prim.Native.Nat.{ℕ}
+use mathlib.Core.List.{List, [], _∷_, _++_}
+use mathlib.Core.Bool.{Bool, true, false, cond, _&&_, _||_}
+use lib.Dec.{eqb, ltb}
+use Rattle.numbers.specs.Lists.{every, everyOf, first}
+use Rattle.layers.specs.declared.Tag.{Tag}
+use Rattle.layers.specs.declared.Tag.the-variants as tag
+use Rattle.layers.specs.declared.Link.{Link}
+use Rattle.layers.specs.declared.Packet.{Packet}
+use Rattle.layers.specs.declared.Ip.{Ip}
+use Rattle.layers.specs.declared.Ip.the-variants as ip
+use Rattle.layers.specs.declared.Transport.{Transport}
+use Rattle.layers.specs.declared.Transport.the-variants as transport
+use Rattle.layers.specs.declared.Message.{Message}
+use Rattle.layers.specs.declared.Someip.{Someip}
+use Rattle.layers.specs.declared.Someip.the-variants as someip
+use Rattle.layers.specs.declared.Layers.{Layers}
+use Rattle.table.specs.declared.Kind.{Kind}
+use Rattle.table.specs.declared.Kind.the-variants as kind
+use Rattle.table.specs.declared.LinkSettings.{LinkSettings}
+use Rattle.table.specs.declared.Ipv4Settings.{Ipv4Settings}
+use Rattle.table.specs.declared.TransportSettings.{TransportSettings}
+use Rattle.table.specs.declared.SomeipSettings.{SomeipSettings}
+use Rattle.table.specs.declared.Rule.{Rule}
+use Rattle.table.specs.declared.Table.{Table}
+use Rattle.table.specs.Settings.{
+  of8,
+  of16,
+  of64,
+  ofKind,
+  ofRange,
+  ofPrefix,
+  isUnset,
+  agrees,
+  inRange,
+  inPrefix,
+  sameKind,
+}
+use Rattle.table.specs.Table.{ruleAt, active}
+
+-- Link, which is always present. "VLAN settings never agree with an untagged frame"
+abbrev pub tagTests : LinkSettings → Tag → List Bool
+tagTests r tag.Untagged = isUnset (of16 (r .vlan)) ∷ isUnset (of8 (r .priority)) ∷ []
+tagTests r (tag.Tagged priority vlan) = agrees eqb (of16 (r .vlan)) vlan ∷ agrees eqb (of8 (r .priority)) priority ∷ []
+
+unfoldable pub linkMatches : LinkSettings → Link → Bool
+linkMatches r x =
+    every
+    (agrees eqb (of64 (r .destination)) (x .dst)
+    ∷ agrees eqb (of64 (r .source)) (x .src)
+    ∷ agrees eqb (of16 (r .ether)) (x .ether)
+    ∷ tagTests r (x .tag))
+
+-- "A layer with no setting matches every frame, even one that lacks it; with any setting it matches only where the layer is present and every setting agrees"
+abbrev pub layerMatches : List Bool → Bool → Bool
+layerMatches unsets agree = every unsets || agree
+
+-- IPv4
+abbrev pub ipv4Unset : Ipv4Settings → List Bool
+ipv4Unset r = isUnset (ofPrefix (r .source)) ∷ isUnset (ofPrefix (r .destination)) ∷ isUnset (of8 (r .protocol)) ∷ []
+
+abbrev pub ipv4Agrees : Ipv4Settings → Ip → Bool
+ipv4Agrees r ip.Absent = false
+ipv4Agrees r (ip.V4 p) =
+    every
+    (agrees inPrefix (ofPrefix (r .source)) (p .source)
+    ∷ agrees inPrefix (ofPrefix (r .destination)) (p .destination)
+    ∷ agrees eqb (of8 (r .protocol)) (p .protocol)
+    ∷ [])
+
+unfoldable pub ipv4Matches : Ipv4Settings → Ip → Bool
+ipv4Matches r x = layerMatches (ipv4Unset r) (ipv4Agrees r x)
+
+-- Transport
+abbrev pub transportUnset : TransportSettings → List Bool
+transportUnset r = isUnset (ofKind (r .kind)) ∷ isUnset (ofRange (r .source)) ∷ isUnset (ofRange (r .destination)) ∷ []
+
+abbrev pub portsAgree : TransportSettings → Kind → ℕ → ℕ → Bool
+portsAgree r k source destination =
+    every
+    (agrees sameKind (ofKind (r .kind)) k
+    ∷ agrees inRange (ofRange (r .source)) source
+    ∷ agrees inRange (ofRange (r .destination)) destination
+    ∷ [])
+
+abbrev pub transportAgrees : TransportSettings → Transport → Bool
+transportAgrees r transport.Absent = false
+transportAgrees r (transport.Tcp t) = portsAgree r kind.Tcp (t .source) (t .destination)
+transportAgrees r (transport.Udp u) = portsAgree r kind.Udp (u .source) (u .destination)
+
+unfoldable pub transportMatches : TransportSettings → Transport → Bool
+transportMatches r x = layerMatches (transportUnset r) (transportAgrees r x)
+
+-- SOME/IP: the messages of the layer, none where it is absent. "The first message only is read"
+abbrev pub messagesOf : List ℕ → Someip → List Message
+messagesOf s someip.Absent = []
+messagesOf s (someip.Present m) = m ∷ []
+
+abbrev pub someipUnset : SomeipSettings → List Bool
+someipUnset r =
+    isUnset (of16 (r .service))
+    ∷ isUnset (of16 (r .method))
+    ∷ isUnset (of8 (r .version))
+    ∷ isUnset (of8 (r .kind))
+    ∷ isUnset (of8 (r .code))
+    ∷ []
+
+abbrev pub messageAgrees : SomeipSettings → Message → Bool
+messageAgrees r m =
+    every
+    (agrees eqb (of16 (r .service)) (m .service)
+    ∷ agrees eqb (of16 (r .method)) (m .method)
+    ∷ agrees eqb (of8 (r .version)) (m .version)
+    ∷ agrees eqb (of8 (r .kind)) (m .kind)
+    ∷ agrees eqb (of8 (r .code)) (m .code)
+    ∷ [])
+
+abbrev pub messagesAgree : SomeipSettings → List Message → Bool
+messagesAgree r [] = false
+messagesAgree r (m ∷ ms) = everyOf (messageAgrees r) (m ∷ ms)
+
+unfoldable pub someipMatches : SomeipSettings → List ℕ → Someip → Bool
+someipMatches r s x = layerMatches (someipUnset r) (messagesAgree r (messagesOf s x))
+
+-- the four layers, from link upward. "A rule matches if all four layers do"
+unfoldable pub layerTests : Rule → List ℕ → Layers → List Bool
+layerTests r s l =
+    linkMatches (r .link) (l .link)
+    ∷ ipv4Matches (r .ipv4) (l .ip)
+    ∷ transportMatches (r .transport) (l .transport)
+    ∷ someipMatches (r .someip) s (l .someip)
+    ∷ []
+
+unfoldable pub ruleMatches : Rule → List ℕ → Layers → Bool
+ruleMatches r s l = every (layerTests r s l)
+
+-- "The first active matching rule decides": its place, or 64, the default's, where none matches
+unfoldable pub decides : Table → ℕ → List ℕ → Layers → ℕ → Bool
+decides t state s l i = active t state i && ruleMatches (ruleAt t i) s l
+
+unfoldable pub deciderOf : Table → ℕ → List ℕ → Layers → ℕ
+deciderOf t state s l =
+    let i = first (decides t state s l) (t .rulecount) in
+    cond (ltb i (t .rulecount)) i 64

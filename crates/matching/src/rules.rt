@@ -1,0 +1,150 @@
+// Does a layer of a rule match what a frame shows of it, and does the rule?
+ghost use mathlib.Core.Path.{_≡_};
+ghost use mathlib.Core.Bool.{true};
+ghost use Rattle.numbers.specs.Lists.{every};
+ghost use Rattle.matching.specs.Matching.{tagTests, linkMatches, ipv4Matches, portsAgree, transportMatches, someipMatches, ruleMatches, layerTests};
+ghost use Rattle.matching.specs.Best.{leading};
+use crate::agrees::*;
+use layers::*;
+use table::settings::*;
+use table::*;
+
+// VLAN settings never agree with an untagged frame.
+pub fn tag_agrees(r: LinkSettings, x: Tag) -> bool
+    ensures { λ g. ⌜ g ≡ every (tagTests r x) ⌝ }
+{
+    let vlan = r.vlan;
+    let priority = r.priority;
+    match x {
+        Tag::Untagged => unset16(vlan) & unset8(priority),
+        Tag::Tagged {
+            priority: p,
+            vlan: v,
+        } => agrees16(vlan, v) & agrees8(priority, p),
+    }
+}
+
+pub fn link_matches(r: LinkSettings, x: Link) -> bool
+    ensures { λ g. ⌜ g ≡ linkMatches r x ⌝ }
+{
+    let destination = r.destination;
+    let source = r.source;
+    let ether = r.ether;
+    let tag = x.tag;
+    if !agrees64(destination, x.dst) {
+        return false;
+    }
+    if !agrees64(source, x.src) {
+        return false;
+    }
+    if !agrees16(ether, x.ether) {
+        return false;
+    }
+    tag_agrees(r, tag)
+}
+
+// Absent: no setting. Present: every setting agrees, and an unset one always does.
+pub fn ipv4_matches(r: Ipv4Settings, x: Ip) -> bool
+    ensures { λ g. ⌜ g ≡ ipv4Matches r x ⌝ }
+{
+    let source = r.source;
+    let destination = r.destination;
+    let protocol = r.protocol;
+    match x {
+        Ip::Absent => unset_prefix(source) & (unset_prefix(destination) & unset8(protocol)),
+        Ip::V4(p) => {
+            if !agrees_prefix(source, p.source) {
+                return false;
+            }
+            if !agrees_prefix(destination, p.destination) {
+                return false;
+            }
+            agrees8(protocol, p.protocol)
+        }
+    }
+}
+
+pub fn ports_agree(r: TransportSettings, k: Kind, from: u16, to: u16) -> bool
+    ensures { λ g. ⌜ g ≡ portsAgree r k from to ⌝ }
+{
+    let kind = r.kind;
+    let source = r.source;
+    let destination = r.destination;
+    if !agrees_kind(kind, k) {
+        return false;
+    }
+    if !agrees_range(source, from) {
+        return false;
+    }
+    agrees_range(destination, to)
+}
+
+pub fn transport_matches(r: TransportSettings, x: Transport) -> bool
+    ensures { λ g. ⌜ g ≡ transportMatches r x ⌝ }
+{
+    let kind = r.kind;
+    let source = r.source;
+    let destination = r.destination;
+    match x {
+        Transport::Absent => unset_kind(kind) & (unset_range(source) & unset_range(destination)),
+        Transport::Tcp(t) => ports_agree(r, Kind::Tcp, t.source, t.destination),
+        Transport::Udp(u) => ports_agree(r, Kind::Udp, u.source, u.destination),
+    }
+}
+
+pub fn someip_matches(r: SomeipSettings, s: &[u8], x: Someip) -> bool
+    ensures { λ g. ⌜ g ≡ someipMatches r (now (s .entry)) x ⌝ }
+{
+    let service = r.service;
+    let method = r.method;
+    let version = r.version;
+    let kind = r.kind;
+    let code = r.code;
+    match x {
+        Someip::Absent => unset16(service)
+            & (unset16(method) & (unset8(version) & (unset8(kind) & unset8(code)))),
+        Someip::Present(m) => agrees16(service, m.service)
+            & (agrees16(method, m.method)
+                & (agrees8(version, m.version) & (agrees8(kind, m.kind) & agrees8(code, m.code)))),
+    }
+}
+
+// The layers that match, from link upward to the first that does not.
+pub fn layers_matched(r: Rule, s: &[u8], l: Layers) -> usize
+    ensures { λ n. ⌜ n ≡ leading (layerTests r (now (s .entry)) l) ⌝ }
+{
+    let ip = l.ip;
+    let transport = l.transport;
+    let someip = l.someip;
+    if !link_matches(r.link, l.link) {
+        return 0;
+    }
+    if !ipv4_matches(r.ipv4, ip) {
+        return 1;
+    }
+    if !transport_matches(r.transport, transport) {
+        return 2;
+    }
+    if !someip_matches(r.someip, s, someip) {
+        return 3;
+    }
+    4
+}
+
+pub fn rule_matches(r: Rule, s: &[u8], l: Layers) -> bool
+    ensures { λ g. ⌜ g ≡ ruleMatches r (now (s .entry)) l ⌝ }
+{
+    let ip = l.ip;
+    let transport = l.transport;
+    let someip = l.someip;
+    if !link_matches(r.link, l.link) {
+        return false;
+    }
+    if !ipv4_matches(r.ipv4, ip) {
+        return false;
+    }
+    if !transport_matches(r.transport, transport) {
+        return false;
+    }
+    someip_matches(r.someip, s, someip)
+}

@@ -1,0 +1,5 @@
+pub mod Chains
+pub mod Prefixes
+pub mod Rules
+pub mod Faults
+pub mod Good
