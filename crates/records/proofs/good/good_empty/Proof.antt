@@ -1,0 +1,70 @@
+use Prim.Native.Nat.{_≤_, _-_}
+use mathlib.Core.Path.{_≡_, sym, ap, _∙_}
+use mathlib.Core.Bool.{_&&_}
+use mathlib.Core.List.{map}
+use lib.ListN.{length-map}
+use Rattle.numbers.specs.Lists.{allBelow}
+use Rattle.numbers.proofs.Lists.{below-none}
+use Rattle.records.specs.Records.{Place, placeOf}
+use Rattle.records.specs.Rule.{isFree}
+use Rattle.records.specs.Good.{clean}
+use Rattle.records.proofs.CodeLaws.{place-at}
+use Rattle.records.proofs.GoodCode.{freshAt, below-more, empty-is}
+use borrow.Author.Needs.{needs}
+use native.Mathlib.Omega.{arith}
+use Rattle.records.proofs.good.good_empty.Statement.{statement}
+use Rattle.records.proofs.good.good_empty.Tie as tie
+
+abbrev Inv-loop : tie.InvT-loop
+Inv-loop ps is₀ j₀ is j = (j ≤ 8) × (is ≡ allBelow (freshAt (map placeOf ps)) j)
+
+abbrev μ-loop : tie.MeasureT-loop
+μ-loop ps is₀ j₀ is j = 8 - j
+
+eight-requires : tie.Need-eight-requires Inv-loop μ-loop
+eight-requires c κs = tt
+
+loop-holds : tie.Need-loop-holds Inv-loop μ-loop
+loop-holds c = (omega arith, sym (below-none (freshAt (map placeOf (c .before .before .args .ps .now)))))
+
+mul-is-fresh : tie.Need-mul-is-fresh Inv-loop μ-loop
+mul-is-fresh c = search needs
+
+index-1-is-fresh : tie.Need-index-1-is-fresh Inv-loop μ-loop
+index-1-is-fresh c = search needs
+
+is-fresh-requires : tie.Need-is-fresh-requires Inv-loop μ-loop
+is-fresh-requires c κs = tt
+
+add-j : tie.Need-add-j Inv-loop μ-loop
+add-j c = search needs
+
+loop-less : tie.Need-loop-less Inv-loop μ-loop
+loop-less c = search needs
+
+loop-again : tie.Need-loop-again Inv-loop μ-loop
+loop-again c = let ps = c .before .before .before .before .before .before .args .ps .now in
+    let l = c .before .before .before .loop in
+    (omega arith, below-more (freshAt (map placeOf ps)) (l .j) _ _ (l .inv .1) (c .is-fresh .ensures ∙ ap (λ (p : Place). isFree p && clean p) (sym (place-at ps (l .j)))))
+
+returns : tie.Need-returns Inv-loop μ-loop
+returns c = let ps = c .before .before .before .before .args .ps .now in
+    let l = c .before .loop in
+    let e : l .j ≡ 8 = omega arith in
+    l .inv .1 ∙ ap (allBelow (freshAt (map placeOf ps))) e ∙ empty-is (map placeOf ps) (length-map ps placeOf ∙ c .before .before .eight .ensures)
+
+pub good-empty-spec : {M : Type 1} → statement M
+good-empty-spec =
+    tie.close
+    (tie.spec
+    Inv-loop
+    μ-loop
+    eight-requires
+    loop-holds
+    mul-is-fresh
+    index-1-is-fresh
+    is-fresh-requires
+    add-j
+    loop-less
+    loop-again
+    returns)

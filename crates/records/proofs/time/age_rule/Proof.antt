@@ -1,0 +1,58 @@
+use mathlib.Core.Path.{sym, ap, _∙_}
+use mathlib.Core.List.{map}
+use lib.ListN.{getD, set}
+use Rattle.table.specs.declared.Bucket.{Bucket}
+use Rattle.table.specs.declared.Tracking.{Tracking}
+use Rattle.records.specs.Records.{placeOf}
+use Rattle.records.specs.Rule.{drained, agedPlaces}
+use Rattle.records.proofs.TimeLaws.{rule-aged}
+use borrow.Author.Needs.{needs}
+use Rattle.records.proofs.time.age_rule.Statement.{statement}
+use Rattle.records.proofs.time.age_rule.Tie as tie
+
+bucket-requires : tie.Need-bucket-requires
+bucket-requires c κs = search needs
+
+tracking-requires : tie.Need-tracking-requires
+tracking-requires c κs = search needs
+
+three-requires : tie.Need-three-requires
+three-requires c κs = search needs
+
+age-level-requires : tie.Need-age-level-requires
+age-level-requires c κs = search needs
+
+enum-told : tie.Need-enum-told
+enum-told c = search needs
+
+enum-known-k : tie.Need-enum-known-k
+enum-known-k c = search needs
+
+age-places-requires : tie.Need-age-places-requires
+age-places-requires c κs = search needs
+
+returns : tie.Need-returns
+returns c = let a = c .before .before .before .before .before .before .before .before .args in
+    rule-aged (a .elapsed) (a .r) (a .c .now) _ (a .ps .now) (a .ps .now) (c .before .before .before .before .three .ensures)
+    (c .before .before .age-level .ensures ∙ ap (λ (k : Bucket). set (a .c .now) 0 (drained k (a .elapsed) (getD (a .c .now) 0 0))) (c .before .before .before .before .before .before .before .bucket .ensures))
+    (ap (λ (k : Tracking). agedPlaces k (a .elapsed) (map placeOf (a .ps .now))) (sym (c .enum-told .given .1) ∙ c .before .before .before .before .before .before .tracking .ensures))
+
+returns-2 : tie.Need-returns-2
+returns-2 c = let a = c .before .before .before .before .before .before .before .before .before .before .before .args in
+    rule-aged (a .elapsed) (a .r) (a .c .now) _ (a .ps .now) (c .age-places .last .1 .1 .0) (c .before .before .before .before .before .before .before .three .ensures)
+    (c .before .before .before .before .before .age-level .ensures ∙ ap (λ (k : Bucket). set (a .c .now) 0 (drained k (a .elapsed) (getD (a .c .now) 0 0))) (c .before .before .before .before .before .before .before .before .before .before .bucket .ensures))
+    (c .age-places .ensures ∙ ap (λ (k : Tracking). agedPlaces k (a .elapsed) (map placeOf (a .ps .now))) (sym (c .before .before .before .k .given .1) ∙ c .before .before .before .before .before .before .before .before .before .tracking .ensures))
+
+pub age-rule-spec : {M : Type 1} → statement M
+age-rule-spec =
+    tie.close
+    (tie.spec
+    bucket-requires
+    tracking-requires
+    three-requires
+    age-level-requires
+    enum-told
+    enum-known-k
+    age-places-requires
+    returns
+    returns-2)

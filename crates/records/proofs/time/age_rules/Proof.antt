@@ -1,0 +1,85 @@
+use Prim.Native.Nat.{_≤_, _-_}
+use mathlib.Core.Path.{_≡_, refl}
+use lib.ListN.{length, length-set, getD}
+use Rattle.numbers.specs.Lists.{firsts}
+use Rattle.table.specs.Table.{noRule}
+use Rattle.records.specs.Records.{rulesOf}
+use Rattle.records.specs.Rule.{aged}
+use Rattle.records.proofs.TimeLaws.{rules-turn, rules-turned}
+use borrow.Author.Needs.{needs}
+use native.Mathlib.Omega.{arith}
+use Rattle.records.proofs.time.age_rules.Statement.{statement}
+use Rattle.records.proofs.time.age_rules.Tie as tie
+
+abbrev Inv-loop : tie.InvT-loop
+Inv-loop elapsed counts₀ places₀ t n i₀ counts places i = (i ≤ n) × (length counts ≡ length counts₀) × (length places ≡ length places₀) × (rulesOf counts places ≡ firsts (λ j. aged elapsed (getD (t .rules) j noRule)) i (rulesOf counts₀ places₀))
+
+abbrev μ-loop : tie.MeasureT-loop
+μ-loop elapsed counts₀ places₀ t n i₀ counts places i = n - i
+
+rows-requires : tie.Need-rows-requires Inv-loop μ-loop
+rows-requires c κs = tt
+
+loop-holds : tie.Need-loop-holds Inv-loop μ-loop
+loop-holds c = (omega arith, refl, refl, refl)
+
+mul-r : tie.Need-mul-r Inv-loop μ-loop
+mul-r c = search needs
+
+element-copy-out-r : tie.Need-element-copy-out-r Inv-loop μ-loop
+element-copy-out-r c = search needs
+
+mul-age-rule : tie.Need-mul-age-rule Inv-loop μ-loop
+mul-age-rule c = search needs
+
+index-1-age-rule : tie.Need-index-1-age-rule Inv-loop μ-loop
+index-1-age-rule c = search needs
+
+mul-age-rule-2 : tie.Need-mul-age-rule-2 Inv-loop μ-loop
+mul-age-rule-2 c = search needs
+
+index-1-age-rule-2 : tie.Need-index-1-age-rule-2 Inv-loop μ-loop
+index-1-age-rule-2 c = search needs
+
+age-rule-requires : tie.Need-age-rule-requires Inv-loop μ-loop
+age-rule-requires c κs = tt
+
+add-i : tie.Need-add-i Inv-loop μ-loop
+add-i c = search needs
+
+loop-less : tie.Need-loop-less Inv-loop μ-loop
+loop-less c = search needs
+
+loop-again : tie.Need-loop-again Inv-loop μ-loop
+loop-again c = let a = c .before .before .before .before .before .before .before .before .before .args in
+    let l = c .before .before .before .before .before .loop in (
+      omega arith,
+      simp length-set (l .inv .1),
+      simp length-set (l .inv .2),
+      rules-turn (a .t1) (a .elapsed) (a .counts .now) (l .counts) (a .places .now) (l .places) (l .i) (l .inv .3) _ _ (omega arith) (omega arith) (c .age-rule .ensures),
+    )
+
+returns : tie.Need-returns Inv-loop μ-loop
+returns c = let a = c .before .before .before .before .before .args in
+    let l = c .before .loop in
+    rules-turned (a .t1) (a .elapsed) (a .counts .now) (l .counts) (a .places .now) (l .places) (l .i) (l .inv .3) (omega arith)
+
+pub age-rules-spec : {M : Type 1} → statement M
+age-rules-spec =
+    tie.close
+    (tie.spec
+    Inv-loop
+    μ-loop
+    rows-requires
+    loop-holds
+    mul-r
+    element-copy-out-r
+    mul-age-rule
+    index-1-age-rule
+    mul-age-rule-2
+    index-1-age-rule-2
+    age-rule-requires
+    add-i
+    loop-less
+    loop-again
+    returns)

@@ -1,0 +1,4 @@
+pub mod Records
+pub mod Rule
+pub mod Good
+pub mod Step
