@@ -1,0 +1,114 @@
+-- The event's bytes: 001 section 7.6.1, as document 01, 'Verdicts, events, refusals', fixes it.
+-- s is the frame's bytes, l the layers read from them, id the rule id that the event names.
+-- Assumes nothing.
+use Prim.Native.Nat.{ℕ, _/_, _%_}
+use mathlib.Core.List.{List, [], _∷_, _++_}
+use mathlib.Core.Bool.{Bool, cond}
+use lib.ListN.{take, drop}
+use lib.Dec.{eqb}
+use Rattle.numbers.specs.Lists.{copies}
+use Rattle.layers.specs.declared.Ip.{Ip}
+use Rattle.layers.specs.declared.Ip.the-variants as ip
+use Rattle.layers.specs.declared.Transport.{Transport}
+use Rattle.layers.specs.declared.Transport.the-variants as transport
+use Rattle.layers.specs.declared.Someip.{Someip}
+use Rattle.layers.specs.declared.Someip.the-variants as someip
+use Rattle.layers.specs.declared.Layers.{Layers}
+use Rattle.table.specs.declared.Rule.{Rule}
+use Rattle.table.specs.Settings.{ofKind}
+use Rattle.table.specs.Table.{isTcp}
+use Rattle.events.specs.declared.Event.{Event}
+use Rattle.events.specs.declared.Event.the-variants as event
+
+-- "number as 16 bits"
+abbrev pub word16 : ℕ → List ℕ
+word16 n = n / 256 ∷ n % 256 ∷ []
+
+-- "its first bytes, zeros to fill, all zeros if absent": an array of n bytes
+unfoldable pub array : ℕ → List ℕ → List ℕ
+array n bytes = take n (bytes ++ copies n 0)
+
+-- the bytes of a header that lies at `at` and is len bytes long
+abbrev pub part : List ℕ → ℕ → ℕ → List ℕ
+part s at len = take len (drop at s)
+
+-- the headers, empty where the frame has none
+abbrev pub linkHeader : List ℕ → Layers → List ℕ
+linkHeader s l = part s 0 (l .link .hlen)
+
+abbrev pub ipv4Header : List ℕ → Ip → List ℕ
+ipv4Header s ip.Absent = []
+ipv4Header s (ip.V4 p) = part s (p .header) (p .hlen)
+
+abbrev pub tcpHeader : List ℕ → Transport → List ℕ
+tcpHeader s transport.Absent = []
+tcpHeader s (transport.Tcp t) = part s (t .header) (t .hlen)
+tcpHeader s (transport.Udp u) = []
+
+abbrev pub udpHeader : List ℕ → Transport → List ℕ
+udpHeader s transport.Absent = []
+udpHeader s (transport.Tcp t) = []
+udpHeader s (transport.Udp u) = part s (u .header) 8
+
+abbrev pub someipHeader : List ℕ → Someip → List ℕ
+someipHeader s someip.Absent = []
+someipHeader s (someip.Present m) = part s (m .header) 16
+
+-- "MAC_Address is the source MAC"
+abbrev pub sourceMac : List ℕ → List ℕ
+sourceMac s = part s 6 6
+
+-- the rows of 001's context data, each with its length from there
+pub data Row : Type 0 where
+  FirewallRuleId : Row
+  CompleteEthernetHeader : Row
+  CompleteIPv4Header : Row
+  CompleteTCPHeader : Row
+  CompleteUDPHeader : Row
+  CompleteSOMEIPHeader : Row
+  MAC-Address : Row
+
+abbrev pub rowBytes : ℕ → List ℕ → Layers → Row → List ℕ
+rowBytes id s l FirewallRuleId = word16 id
+rowBytes id s l CompleteEthernetHeader = array 30 (linkHeader s l)
+rowBytes id s l CompleteIPv4Header = array 24 (ipv4Header s (l .ip))
+rowBytes id s l CompleteTCPHeader = array 24 (tcpHeader s (l .transport))
+rowBytes id s l CompleteUDPHeader = array 8 (udpHeader s (l .transport))
+rowBytes id s l CompleteSOMEIPHeader = array 16 (someipHeader s (l .someip))
+rowBytes id s l MAC-Address = array 6 (sourceMac s)
+
+-- 001's number of each event, and its rows
+abbrev pub numberOf : Event → ℕ
+numberOf event.Ratelimit = 64
+numberOf event.StateTransition = 63
+numberOf event.MaxConnections = 61
+numberOf event.LinkMismatch = 77
+numberOf event.Ipv4Mismatch = 51
+numberOf event.TcpMismatch = 54
+numberOf event.UdpMismatch = 55
+numberOf event.SomeipMismatch = 56
+
+abbrev pub rowsOf : Event → List Row
+rowsOf event.Ratelimit = FirewallRuleId ∷ MAC-Address ∷ []
+rowsOf event.StateTransition = FirewallRuleId ∷ []
+rowsOf event.MaxConnections = FirewallRuleId ∷ CompleteTCPHeader ∷ []
+rowsOf event.LinkMismatch = FirewallRuleId ∷ CompleteEthernetHeader ∷ []
+rowsOf event.Ipv4Mismatch = FirewallRuleId ∷ CompleteIPv4Header ∷ []
+rowsOf event.TcpMismatch = FirewallRuleId ∷ CompleteTCPHeader ∷ []
+rowsOf event.UdpMismatch = FirewallRuleId ∷ CompleteUDPHeader ∷ []
+rowsOf event.SomeipMismatch = FirewallRuleId ∷ CompleteSOMEIPHeader ∷ []
+
+abbrev pub rowsBytes : ℕ → List ℕ → Layers → List Row → List ℕ
+rowsBytes id s l [] = []
+rowsBytes id s l (r ∷ rs) = rowBytes id s l r ++ rowsBytes id s l rs
+
+-- "Event: number as 16 bits, then the context data of 001 section 7.6.1, row by row"
+unfoldable pub eventBytes : Event → ℕ → List ℕ → Layers → List ℕ
+eventBytes e id s l = word16 (numberOf e) ++ rowsBytes id s l (rowsOf e)
+
+-- "its next layer names the event (link, IPv4, TCP or UDP by that rule's kind, SOME/IP)"
+unfoldable pub mismatchOf : Rule → ℕ → Event
+mismatchOf r layer =
+    cond (eqb layer 0) event.LinkMismatch
+    (cond (eqb layer 1) event.Ipv4Mismatch
+    (cond (eqb layer 2) (cond (isTcp (ofKind (r .transport .kind))) event.TcpMismatch event.UdpMismatch) event.SomeipMismatch))
