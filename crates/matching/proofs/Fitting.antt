@@ -2,21 +2,20 @@
 -- Assumes nothing.
 use Prim.Native.Nat.{ℕ, zero, suc, _+_, _-_, _<_, _≤_, max}
 use mathlib.Core.Path.{_≡_, refl, sym, subst}
-use mathlib.Core.List.{List, [], _∷_}
-use mathlib.Core.Bool.{Bool, true, false, _&&_, cond, false≢true, true≢false}
+use mathlib.Core.List.{List}
+use mathlib.Core.Bool.{Bool, true, false}
 use native.Mathlib.Nat.{le-of-lt, max-eq-left, max-eq-right}
 use native.Mathlib.Numerals.{add-one}
 use native.Mathlib.Omega.{arith}
 use borrow.Author.Tests.{eqb-true, eqb-false, eq-eqb, ne-eqb, ltb-true, ltb-false}
 use lib.Dec.{eqb, ltb}
-use lib.ListN.{length}
-use Rattle.numbers.specs.Lists.{every, first}
+use Rattle.numbers.specs.Lists.{first}
 use Rattle.numbers.proofs.Lists.{cond-both, first-is, last-or-below}
 use Rattle.layers.specs.declared.Layers.{Layers}
 use Rattle.table.specs.declared.Table.{Table}
 use Rattle.table.specs.Table.{ruleAt, active}
-use Rattle.matching.specs.Matching.{layerTests, ruleMatches, decides, deciderOf}
-use Rattle.matching.specs.Best.{leading, scoreOf, greatest, bestOf}
+use Rattle.matching.specs.Matching.{decides, deciderOf}
+use Rattle.matching.specs.Best.{scoreOf, greatest, bestOf}
 use Rattle.matching.specs.declared.Best.{Best}
 use Rattle.matching.proofs.Deciders.{decider-default}
 use Rattle.matching.proofs.Leading.{leading-small, leading-short}

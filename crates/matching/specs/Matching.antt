@@ -2,14 +2,13 @@
 -- s is the frame's bytes, and l the layers that were read from them.
 -- Assumes nothing.
 use Prim.Native.Nat.{ℕ}
-use mathlib.Core.List.{List, [], _∷_, _++_}
-use mathlib.Core.Bool.{Bool, true, false, cond, _&&_, _||_}
+use mathlib.Core.List.{List, [], _∷_}
+use mathlib.Core.Bool.{Bool, false, cond, _&&_, _||_}
 use lib.Dec.{eqb, ltb}
 use Rattle.numbers.specs.Lists.{every, everyOf, first}
 use Rattle.layers.specs.declared.Tag.{Tag}
 use Rattle.layers.specs.declared.Tag.the-variants as tag
 use Rattle.layers.specs.declared.Link.{Link}
-use Rattle.layers.specs.declared.Packet.{Packet}
 use Rattle.layers.specs.declared.Ip.{Ip}
 use Rattle.layers.specs.declared.Ip.the-variants as ip
 use Rattle.layers.specs.declared.Transport.{Transport}

@@ -1,6 +1,5 @@
 // Does a layer of a rule match what a frame shows of it, and does the rule?
 ghost use mathlib.Core.Path.{_≡_};
-ghost use mathlib.Core.Bool.{true};
 ghost use Rattle.numbers.specs.Lists.{every};
 ghost use Rattle.matching.specs.Matching.{tagTests, linkMatches, ipv4Matches, portsAgree, transportMatches, someipMatches, ruleMatches, layerTests};
 ghost use Rattle.matching.specs.Best.{leading};

@@ -8,7 +8,6 @@ use lib.ListN.{length, getD, set, List·getD-eq-default}
 use native.Mathlib.Omega.{arith}
 use Rattle.table.specs.declared.Action.{Action}
 use Rattle.table.specs.declared.Action.the-variants as action
-use Rattle.table.specs.declared.Fault.{Fault}
 use Rattle.table.specs.declared.Fault.the-variants as fault
 use Rattle.table.specs.declared.Room.{Room}
 use Rattle.table.specs.declared.Rule.{Rule}

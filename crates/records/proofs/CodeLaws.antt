@@ -11,6 +11,10 @@ use Rattle.records.specs.Records.{free, RuleRecord, placeOf, ruleOf, rul
 
 -- ---- tests in a row, as the code writes them and as `every` has them
 
+pub and-true : (b : Bool) → b ≡ (b && true)
+and-true true = refl
+and-true false = refl
+
 pub and-three : (a b c : Bool) → ((a && b) && c) ≡ (a && (b && (c && true)))
 and-three true true true = refl
 and-three true true false = refl

@@ -3,7 +3,7 @@
 use Prim.Native.Nat.{ℕ, _+_, _<_, _≤_}
 use mathlib.Core.Path.{_≡_, refl, sym, ap, subst, _∙_}
 use mathlib.Core.Bool.{Bool, true, false, cond, not, _&&_, _||_, false≢true}
-use mathlib.Core.List.{List, [], _∷_, map}
+use mathlib.Core.List.{List, [], map}
 use lib.ListN.{length, getD, length-take, List·getD-eq-default}
 use lib.Dec.{ltb, leb, eqb}
 use native.Mathlib.Omega.{arith}
@@ -32,7 +32,7 @@ use Rattle.records.specs.Good.{
   ruleOfRecord,
   recordsGood,
 }
-use Rattle.records.proofs.CodeLaws.{and-four, place-at}
+use Rattle.records.proofs.CodeLaws.{and-true, and-four, place-at}
 use Rattle.records.proofs.RuleLaws.{by-test, by-less, or-first, or-second, or-rest, free-holds, at, once-single, PlacesGood, places-in, places-out}
 use Rattle.records.specs.Good as laws
 use Rattle.records.proofs.GoodLaws.{rule-within, rule-beyond}
@@ -202,10 +202,6 @@ level-unset l =
     both-ways (eqb l 0) (leb l 4294967000 && eqb l 0)
     (λ e. let z = eqb-true l 0 e in and-true-true (le-leb l 4294967000 (omega arith)) e)
     (λ h. and-both (leb l 4294967000) (eqb l 0) h .1)
-
-pub and-true : (b : Bool) → b ≡ (b && true)
-and-true true = refl
-and-true false = refl
 
 -- ---- a rule
 

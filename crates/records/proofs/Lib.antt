@@ -7,4 +7,3 @@ pub mod TimeLaws
 pub mod ActLaws
 pub mod GoodCode
 pub mod ShapeLaws
-pub mod Scratch

@@ -3,8 +3,8 @@
 use Prim.Native.Nat.{ℕ, _+_, _-_, _*_, _<_, _≤_}
 use mathlib.Core.Path.{_≡_, refl, sym, ap, subst, _∙_}
 use mathlib.Core.Bool.{true}
-use mathlib.Core.List.{List, [], _∷_, map}
-use lib.ListN.{length, getD, set, take, length-map, length-take}
+use mathlib.Core.List.{List, [], map}
+use lib.ListN.{length, getD, set, length-map, length-take}
 use lib.Seq.{getD-set-same, getD-set-other}
 use native.Mathlib.Nat.{one-mul, mul-le-mul-right}
 use native.Mathlib.Omega.{arith}
@@ -13,10 +13,9 @@ use Rattle.numbers.specs.Lists.{each, firsts}
 use Rattle.numbers.proofs.Lists.{firsts-next, firsts-map}
 use Rattle.table.specs.declared.Rule.{Rule}
 use Rattle.table.specs.declared.Table.{Table}
-use Rattle.table.specs.declared.Tracking.{Tracking}
 use Rattle.table.specs.Table.{noRule, bucketOf, trackingOf}
 use Rattle.table.specs.Table as table
-use Rattle.records.specs.Records.{Place, free, RuleRecord, noRecord, placeOf, ruleOf, rulesOf, recordsOf, words}
+use Rattle.records.specs.Records.{Place, free, noRecord, placeOf, ruleOf, rulesOf, recordsOf, words}
 use Rattle.records.specs.Rule.{withAge, drained, agedPlace, agedPlaces, aged}
 use Rattle.records.specs.Step.{ticked}
 use Rattle.records.specs.Good.{recordsGood}

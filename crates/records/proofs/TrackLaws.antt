@@ -2,11 +2,11 @@
 -- Assumes nothing.
 use Prim.Native.Nat.{ℕ, _<_, _≤_}
 use mathlib.Core.Path.{_≡_, sym, ap, _∙_}
-use mathlib.Core.Bool.{not, _&&_}
+use mathlib.Core.Bool.{false, not}
 use mathlib.Core.List.{List, [], _∷_, map}
 use lib.ListN.{length, getD, set, length-map}
 use native.Mathlib.Omega.{arith}
-use borrow.Author.Tests.{lt-ltb, le-ltb}
+use borrow.Author.Tests.{eq-eqb, lt-ltb, le-ltb}
 use lib.Dec.{eqb}
 use Rattle.numbers.specs.Lists.{first}
 use Rattle.table.specs.declared.Room.{Room}
@@ -33,7 +33,8 @@ use Rattle.records.specs.Rule.{
   begun,
   trackedIn,
 }
-use Rattle.records.proofs.CodeLaws.{and-four, map-set, place-at}
+use Rattle.records.proofs.CodeLaws.{and-true, map-set, place-at}
+use Rattle.records.proofs.RuleLaws.{by-test, holds-is}
 
 -- the words of a conversation
 pub held-words : (q : Quad) (f : Phase) (s : ℕ) → s ≡ phaseWord f → placeOf (s ∷ q .source ∷ q .destination ∷ q .ports ∷ 0 ∷ []) ≡ heldAs q f
@@ -54,11 +55,18 @@ stays v w ps e = λ j. record { verdict = e j; places = map placeOf ps }
 pub held-at : (q : Quad) (ps : List (List ℕ)) → length ps ≡ 8 → heldAt q (map placeOf ps) ≡ first (λ j. holds q (getD (map placeOf ps) j free)) 8
 held-at q ps n = ap (first (λ j. holds q (getD (map placeOf ps) j free))) (length-map ps placeOf ∙ n)
 
--- a place holds the quadruple, as the code tests it
-pub holds-words : (q : Quad) (w : List ℕ)
-    → (((not (eqb (getD w 0 0) 0) && eqb (q .source) (getD w 1 0)) && eqb (q .destination) (getD w 2 0)) && eqb (q .ports) (getD w 3 0)) ≡ holds q (placeOf w)
-unfolding holds
-holds-words q w = and-four (not (eqb (getD w 0 0) 0)) (eqb (q .source) (getD w 1 0)) (eqb (q .destination) (getD w 2 0)) (eqb (q .ports) (getD w 3 0))
+-- ---- a place holds the quadruple
+
+module _ (q : Quad) (w : List ℕ) where
+  -- one of its numbers differs
+  pub holds-not : (f : Quad → ℕ) → (f q ≡ f (placeOf w .quad) → ⊥) → false ≡ holds q (placeOf w)
+  holds-not f n = by-test (holds q (placeOf w)) (λ e. absurd (n (ap f (holds-is q (placeOf w) e .1)))) (λ e. sym e)
+
+  -- all three agree
+  pub holds-same : q .ports ≡ getD w 3 0 → q .source ≡ getD w 1 0 → q .destination ≡ getD w 2 0 → not (eqb (getD w 0 0) 0) ≡ holds q (placeOf w)
+  unfolding holds
+  holds-same p s d =
+      rw (eq-eqb (q .source) (getD w 1 0) s, eq-eqb (q .destination) (getD w 2 0) d, eq-eqb (q .ports) (getD w 3 0) p) (and-true (not (eqb (getD w 0 0) 0)))
 
 -- ---- a new conversation
 

@@ -1,10 +1,10 @@
 -- One rule's record: how it ages, and what it does with a frame that its rule decides. Document 01, 'One frame, in this order'.
 -- Assumes nothing.
 use Prim.Native.Nat.{ℕ, _+_, _-_, _*_, min}
-use mathlib.Core.Bool.{Bool, true, false, cond, _&&_, not}
+use mathlib.Core.Bool.{Bool, false, cond, _&&_, not}
 use mathlib.Core.List.{List, [], _∷_, map}
 use lib.ListN.{length, getD, set}
-use lib.Dec.{ltb, leb, eqb}
+use lib.Dec.{ltb, eqb}
 use Rattle.numbers.specs.Lists.{every, first}
 use Rattle.table.specs.declared.Rule.{Rule}
 use Rattle.table.specs.declared.Bucket.{Bucket}

@@ -1,9 +1,9 @@
 -- Fresh records, a switch of vehicle state, and what one frame does to the records. Document 01, 'The records' and 'One frame, in this order'.
 -- Assumes nothing.
 use Prim.Native.Nat.{ℕ, _-_}
-use mathlib.Core.Bool.{Bool, cond}
-use mathlib.Core.List.{List, [], _∷_, _++_}
-use lib.ListN.{getD, set}
+use mathlib.Core.Bool.{cond}
+use mathlib.Core.List.{[], _∷_, _++_}
+use lib.ListN.{set}
 use lib.Dec.{ltb}
 use Rattle.numbers.specs.Lists.{each, copies}
 use Rattle.table.specs.declared.Action.{Action}

@@ -98,7 +98,7 @@ fn good_level(b: Bucket, level: u32) -> bool
 {
     match b {
         Bucket::Unset => level == 0,
-        Bucket::Set(_) => level <= 4294967000,
+        Bucket::Set(_) => level <= LEVEL_MOST,
     }
 }
 

@@ -44,6 +44,13 @@ pub const PORTS: usize = 3;
 
 pub const AGE: usize = 4;
 
+// A level is in thousandths of a frame. Levels and counts stop here.
+pub const FRAME: u32 = 1000;
+
+pub const LEVEL_MOST: u32 = 4294967000;
+
+pub const COUNT_MOST: u32 = 4294967295;
+
 // A conversation: the addresses and both ports, source x 65,536 + destination, as this direction shows them.
 pub struct Quad {
     pub source: u32,

@@ -14,10 +14,10 @@ pub(crate) fn raise(b: Bucket, level: u32) -> u32
     match b {
         Bucket::Unset => level,
         Bucket::Set(_) => {
-            if level < 4294966000 {
-                level + 1000
+            if level < LEVEL_MOST - FRAME {
+                level + FRAME
             } else {
-                4294967000
+                LEVEL_MOST
             }
         }
     }
@@ -29,7 +29,7 @@ pub(crate) fn is_over(b: Bucket, level: u32) -> bool
     match b {
         Bucket::Unset => false,
         Bucket::Set(rate) => {
-            let top = 1000 * numbers::wide32(rate.size);
+            let top = FRAME * numbers::wide32(rate.size);
             top < level
         }
     }
@@ -40,7 +40,7 @@ pub(crate) fn count(is: bool, n: u32) -> u32
     ensures { λ r. ⌜ r ≡ counted is n ⌝ }
 {
     if is {
-        if n < 4294967295 {
+        if n < COUNT_MOST {
             return n + 1;
         }
     }

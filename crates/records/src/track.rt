@@ -31,13 +31,18 @@ pub fn flag_kind(fin: bool, syn: bool, rst: bool, ack: bool) -> FlagKind
 
 // ---- finding
 
+// The ports differ most often, so they are compared first.
 pub(crate) fn is_held_by(q: Quad, p: &PlaceWords) -> bool
     ensures { λ r. ⌜ r ≡ holds q (placeOf (now (p .entry))) ⌝ }
 {
-    (p[STATE] != 0)
-        & (q.source == p[SOURCE])
-        & (q.destination == p[DESTINATION])
-        & (q.ports == p[PORTS])
+    if q.ports == p[PORTS] {
+        if q.source == p[SOURCE] {
+            if q.destination == p[DESTINATION] {
+                return p[STATE] != 0;
+            }
+        }
+    }
+    false
 }
 
 // The place that holds the quadruple, or 8.

@@ -1,6 +1,6 @@
 -- Rules, vehicle states, and when a table is bad. Document 01, 'Rules and vehicle states' and refusal 4.
 -- Assumes nothing.
-use Prim.Native.Nat.{ℕ, _+_, _/_, _%_, _^_}
+use Prim.Native.Nat.{ℕ, _/_, _%_, _^_}
 use mathlib.Core.List.{List, [], _∷_, _++_}
 use mathlib.Core.Bool.{Bool, true, false, cond, _&&_, _||_, not}
 use lib.ListN.{getD, take}
@@ -46,10 +46,8 @@ use Rattle.table.specs.declared.TrackingSettings.{TrackingSettings}
 use Rattle.table.specs.declared.Rule.{Rule}
 use Rattle.table.specs.declared.State.{State}
 use Rattle.table.specs.declared.Table.{Table}
-use Rattle.table.specs.declared.Rate.{Rate}
 use Rattle.table.specs.declared.Bucket.{Bucket}
 use Rattle.table.specs.declared.Bucket.the-variants as bucket
-use Rattle.table.specs.declared.Room.{Room}
 use Rattle.table.specs.declared.Tracking.{Tracking}
 use Rattle.table.specs.declared.Tracking.the-variants as tracking
 use Rattle.table.specs.declared.Fault.{Fault}

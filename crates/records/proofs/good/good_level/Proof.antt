@@ -3,7 +3,8 @@ use mathlib.Core.Bool.{_&&_, _||_}
 use lib.Dec.{leb, eqb}
 use Rattle.table.specs.declared.Bucket.{Bucket}
 use Rattle.records.specs.Good.{hasBucket}
-use Rattle.records.proofs.GoodCode.{level-unset, and-true}
+use Rattle.records.proofs.CodeLaws.{and-true}
+use Rattle.records.proofs.GoodCode.{level-unset}
 use borrow.Author.Needs.{needs}
 use Rattle.records.proofs.good.good_level.Statement.{statement}
 use Rattle.records.proofs.good.good_level.Tie as tie

@@ -13,6 +13,9 @@ enum-told c = search needs
 enum-told-2 : tie.Need-enum-told-2
 enum-told-2 c = search needs
 
+sub-if1 : tie.Need-sub-if1
+sub-if1 c = search needs
+
 add-result : tie.Need-add-result
 add-result c = search needs
 
@@ -30,4 +33,4 @@ returns-3 c = let a = c .before .before .before .args in
     h ∙ sym (ap (λ (b : Bucket). raised b (a .level)) (c .before .enum-told2 .given .1))
 
 pub raise-spec : {M : Type 1} → statement M
-raise-spec = tie.close (tie.spec enum-told enum-told-2 add-result returns returns-2 returns-3)
+raise-spec = tie.close (tie.spec enum-told enum-told-2 sub-if1 add-result returns returns-2 returns-3)

@@ -1,10 +1,10 @@
 use Prim.Native.Nat.{_≤_, _-_}
 use mathlib.Core.Path.{_≡_, sym, ap, _∙_}
-use mathlib.Core.List.{[], map}
+use mathlib.Core.List.{map}
 use lib.ListN.{getD}
 use Rattle.numbers.specs.Lists.{firstFrom, first}
 use Rattle.numbers.proofs.Lists.{first-start, first-here, first-next, first-none}
-use Rattle.records.specs.Records.{Place, placeOf, free}
+use Rattle.records.specs.Records.{placeOf, free}
 use Rattle.records.proofs.CodeLaws.{place-at}
 use borrow.Author.Tests.{eq-eqb, ne-eqb}
 use Rattle.records.specs.Rule.{isFree}

@@ -1,30 +1,46 @@
-use Rattle.records.proofs.TrackLaws.{holds-words}
+use Rattle.records.specs.declared.Quad.{Quad}
+use Rattle.records.proofs.TrackLaws.{holds-same, holds-not}
 use borrow.Author.Needs.{needs}
 use Rattle.records.proofs.track.is_held_by.Statement.{statement}
 use Rattle.records.proofs.track.is_held_by.Tie as tie
 
+element-copy-out-if1 : tie.Need-element-copy-out-if1
+element-copy-out-if1 c = search needs
+
+element-copy-out-if2 : tie.Need-element-copy-out-if2
+element-copy-out-if2 c = search needs
+
+element-copy-out-if3 : tie.Need-element-copy-out-if3
+element-copy-out-if3 c = search needs
+
 element-copy-out-result : tie.Need-element-copy-out-result
 element-copy-out-result c = search needs
 
-element-copy-out-result-2 : tie.Need-element-copy-out-result-2
-element-copy-out-result-2 c = search needs
-
-element-copy-out-result-3 : tie.Need-element-copy-out-result-3
-element-copy-out-result-3 c = search needs
-
-element-copy-out-result-4 : tie.Need-element-copy-out-result-4
-element-copy-out-result-4 c = search needs
-
 returns : tie.Need-returns
-returns c = let a = c .before .before .before .before .before .before .before .args in
-    holds-words (a .q) (a .p .now)
+returns c = let a = c .before .before .before .before .before .before .before .before .before .before .args in
+    holds-same (a .q) (a .p .now) (c .before .before .before .before .before .before .before .if1 .taken) (c .before .before .before .before .if2 .taken) (c .before .if3 .taken)
+
+returns-2 : tie.Need-returns-2
+returns-2 c = let a = c .before .before .before .before .before .before .before .before .before .args in
+    holds-not (a .q) (a .p .now) (λ (k : Quad). k .destination) (c .if3 .left)
+
+returns-3 : tie.Need-returns-3
+returns-3 c = let a = c .before .before .before .before .before .before .args in
+    holds-not (a .q) (a .p .now) (λ (k : Quad). k .source) (c .if2 .left)
+
+returns-4 : tie.Need-returns-4
+returns-4 c = let a = c .before .before .before .args in
+    holds-not (a .q) (a .p .now) (λ (k : Quad). k .ports) (c .if1 .left)
 
 pub is-held-by-spec : {M : Type 1} → statement M
 is-held-by-spec =
     tie.close
     (tie.spec
+    element-copy-out-if1
+    element-copy-out-if2
+    element-copy-out-if3
     element-copy-out-result
-    element-copy-out-result-2
-    element-copy-out-result-3
-    element-copy-out-result-4
-    returns)
+    returns
+    returns-2
+    returns-3
+    returns-4)

@@ -1,0 +1,51 @@
+use mathlib.Core.Path.{sym, ap, _∙_}
+use Rattle.firewall.specs.Firewall.{saidChecked}
+use Rattle.firewall.proofs.Laws.{switch-refused, switch-beyond, switch-done}
+use borrow.Author.Needs.{needs}
+use Rattle.firewall.proofs.switch.Statement.{statement}
+use Rattle.firewall.proofs.switch.Tie as tie
+
+check-requires : tie.Need-check-requires
+check-requires c κs = search needs
+
+enum-known-checked : tie.Need-enum-known-checked
+enum-known-checked c = search needs
+
+enum-told : tie.Need-enum-told
+enum-told c = search needs
+
+shape-requires : tie.Need-shape-requires
+shape-requires c κs = search needs
+
+switch-to-requires : tie.Need-switch-to-requires
+switch-to-requires c κs = search needs
+
+returns : tie.Need-returns
+returns c =
+    switch-done _ _ _ _ _ _ (ap saidChecked (sym (c .before .before .before .before .before .before .before .before .enum-told .given .1)) ∙ c .before .before .before .before .before .before .before .before .before .before .check .ensures) (c .before .before .before .before .before .before .if1 .taken) (c .before .before .shape .ensures)
+    (c .switch-to .ensures)
+
+no-such-state-requires : tie.Need-no-such-state-requires
+no-such-state-requires c κs = search needs
+
+returns-2 : tie.Need-returns-2
+returns-2 c =
+    rw (c .no-such-state .ensures)
+    (switch-beyond _ _ _ (ap saidChecked (sym (c .before .before .before .enum-told .given .1)) ∙ c .before .before .before .before .before .check .ensures) (c .before .if1 .left))
+
+returns-3 : tie.Need-returns-3
+returns-3 c = switch-refused _ _ _ _ _ (ap saidChecked (sym (c .before .checked .given .1)) ∙ c .before .before .before .check .ensures)
+
+pub switch-spec : {M : Type 1} → statement M
+switch-spec =
+    tie.close
+    (tie.spec
+    check-requires
+    enum-known-checked
+    enum-told
+    shape-requires
+    switch-to-requires
+    returns
+    no-such-state-requires
+    returns-2
+    returns-3)

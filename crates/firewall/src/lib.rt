@@ -1,0 +1,145 @@
+// The entry points: check, fresh, switch, judge. They ask nothing, and refuse bad input in the paper's order.
+ghost use mathlib.Core.Path.{_≡_};
+ghost use mathlib.Core.Bool.{true};
+ghost use Rattle.layers.specs.Layers.{shownOf};
+ghost use Rattle.table.specs.declared.Fault.the-variants as fault;
+ghost use Rattle.table.specs.Table.{faultOf};
+ghost use Rattle.records.specs.Records.{recordsOf, words};
+ghost use Rattle.records.specs.Good.{recordsGood};
+ghost use Rattle.firewall.specs.Firewall.{
+  saidChecked,
+  saidStarted,
+  saidSwitched,
+  saidJudged,
+  checkOf,
+  startOf,
+  switchOf,
+  afterFrame,
+  judgeOf,
+};
+
+pub mod refusal;
+
+use crate::refusal::Refusal;
+use layers::Shown;
+use records::Counts;
+use records::Head;
+use records::Places;
+use records::shape::shape;
+use steps::Answer;
+use steps::step;
+use table::Fault;
+use table::Table;
+use table::check::fault;
+
+pub enum Checked {
+    Refused(Refusal),
+    Good,
+}
+
+pub enum Started {
+    Refused(Refusal),
+    Fresh,
+}
+
+pub enum Switched {
+    Refused(Refusal),
+    Done,
+}
+
+pub enum Judged {
+    Refused(Refusal),
+    Answered(Answer),
+}
+
+// Is the table good, and then the record?
+pub fn check(t: Table, head: &Head, counts: &Counts, places: &Places) -> Checked
+    ensures { λ r. ⌜ saidChecked r ≡ checkOf t (words (now (head .entry)) (now (counts .entry)) (now (places .entry))) ⌝ }
+{
+    let f = fault(t);
+    let Fault::At(place) = f else {
+        if records::good::good(t, head, counts, places) {
+            return Checked::Good;
+        }
+        return Checked::Refused(Refusal::bad_record());
+    };
+    Checked::Refused(Refusal::bad_table(place))
+}
+
+// A fresh record: state 0, all else empty or zero.
+pub fn fresh(
+    t: Table,
+    reading: u64,
+    head: &mut Head,
+    counts: &mut Counts,
+    places: &mut Places,
+) -> Started
+    ensures { λ r. ⌜ record { said = saidStarted r; words = words (now (head .exit)) (now (counts .exit)) (now (places .exit)) } ≡ startOf t reading (words (now (head .entry)) (now (counts .entry)) (now (places .entry))) ⌝ }
+{
+    let f = fault(t);
+    let Fault::At(place) = f else {
+        records::fresh::fresh(reading, head, counts, places);
+        shape(*head, *counts, *places);
+        return Started::Fresh;
+    };
+    Started::Refused(Refusal::bad_table(place))
+}
+
+// A switch of vehicle state changes only the active state.
+pub fn switch(t: Table, state: usize, head: &mut Head, counts: &Counts, places: &Places) -> Switched
+    ensures { λ r. ⌜ record { said = saidSwitched r; words = words (now (head .exit)) (now (counts .entry)) (now (places .entry)) } ≡ switchOf t state (words (now (head .entry)) (now (counts .entry)) (now (places .entry))) ⌝ }
+{
+    let checked = check(t, head, counts, places);
+    let Checked::Refused(refusal) = checked else {
+        if state < t.statecount {
+            shape(*head, *counts, *places);
+            records::fresh::switch_to(state as u64, head);
+            return Switched::Done;
+        }
+        return Switched::Refused(Refusal::no_such_state());
+    };
+    Switched::Refused(refusal)
+}
+
+// A frame judged by a table and a record that were checked.
+fn judge_frame(
+    t: Table,
+    head: &mut Head,
+    counts: &mut Counts,
+    places: &mut Places,
+    frame: &[u8],
+    reading: u64,
+    space: &mut [u8],
+) -> Judged
+    requires { ⌜ faultOf t ≡ fault.Good ⌝ }
+    requires { ⌜ recordsGood t (recordsOf (words (now head) (now counts) (now places))) ≡ true ⌝ }
+    ensures { λ r. ⌜ record { said = saidJudged r; words = words (now (head .exit)) (now (counts .exit)) (now (places .exit)); space = now (space .exit) } ≡ afterFrame t (words (now (head .entry)) (now (counts .entry)) (now (places .entry))) (record { reading = reading; bytes = now (frame .entry) }) (now (space .entry)) (shownOf (now (frame .entry))) ⌝ }
+{
+    let shown = layers::read(frame);
+    let Shown::Shows(l) = shown else {
+        return Judged::Refused(Refusal::of_frame(shown));
+    };
+    if space.len() < 256 {
+        return Judged::Refused(Refusal::no_space());
+    }
+    Judged::Answered(step(t, frame, l, reading, head, counts, places, space))
+}
+
+// One frame: its verdict, the deciding rule's id and the event's length.
+pub fn judge(
+    t: Table,
+    head: &mut Head,
+    counts: &mut Counts,
+    places: &mut Places,
+    frame: &[u8],
+    reading: u64,
+    space: &mut [u8],
+) -> Judged
+    ensures { λ r. ⌜ record { said = saidJudged r; words = words (now (head .exit)) (now (counts .exit)) (now (places .exit)); space = now (space .exit) } ≡ judgeOf t (words (now (head .entry)) (now (counts .entry)) (now (places .entry))) (record { reading = reading; bytes = now (frame .entry) }) (now (space .entry)) ⌝ }
+{
+    let checked = check(t, head, counts, places);
+    let Checked::Refused(refusal) = checked else {
+        return judge_frame(t, head, counts, places, frame, reading, space);
+    };
+    Judged::Refused(refusal)
+}

@@ -1,0 +1,183 @@
+// One frame judged for a good table and a good record, with nothing checked again.
+ghost use mathlib.Core.Path.{_≡_};
+ghost use mathlib.Core.Bool.{true};
+ghost use Prim.Native.Nat.{_<_, _≤_};
+ghost use lib.ListN.{length};
+ghost use Rattle.layers.specs.Inside.{Inside};
+ghost use Rattle.layers.specs.Layers.{shownOf};
+ghost use Rattle.layers.specs.declared.Shown.the-variants as shown;
+ghost use Rattle.table.specs.declared.Fault.the-variants as fault;
+ghost use Rattle.table.specs.Table.{faultOf};
+ghost use Rattle.records.specs.Records.{recordsOf, words};
+ghost use Rattle.records.specs.Good.{recordsGood};
+ghost use Rattle.steps.specs.Steps.{
+  noSegment,
+  segmentOf,
+  idAt,
+  bestEvent,
+  eventOf,
+  outcomeOf,
+  Wrote,
+  steppedAs,
+};
+use events::Event;
+use events::mismatch;
+use events::write;
+use layers::Ip;
+use layers::Layers;
+use layers::Transport;
+use matching::deciding::best_fit;
+use matching::deciding::decider;
+use numbers::wide32;
+use records::ACTIVE;
+use records::Counts;
+use records::DEFAULT;
+use records::FlagKind;
+use records::Head;
+use records::Places;
+use records::Quad;
+use records::Segment;
+use records::act::act;
+use records::shape::shape;
+use records::time::tick;
+use records::track::flag_kind;
+use records::verdict::Verdict;
+use table::Table;
+
+// "The answer is verdict, the deciding rule's id (65,535 for the default) and event length".
+pub struct Answer {
+    pub verdict: Verdict,
+    pub rule: u16,
+    pub length: usize,
+}
+
+impl Answer {
+    // The rule id that stands for none.
+    pub const NO_RULE: u16 = 65535;
+}
+
+fn no_segment() -> Segment
+    ensures { λ r. ⌜ r ≡ noSegment ⌝ }
+{
+    Segment {
+        quad: Quad {
+            source: 0,
+            destination: 0,
+            ports: 0,
+        },
+        kind: FlagKind::Wrong,
+    }
+}
+
+// What tracking looks at: addresses, ports and flags of a TCP segment.
+pub fn segment(ip: Ip, t: Transport) -> Segment
+    ensures { λ r. ⌜ r ≡ segmentOf ip t ⌝ }
+{
+    let Ip::V4(p) = ip else {
+        return no_segment();
+    };
+    match t {
+        Transport::Absent => no_segment(),
+        Transport::Udp(_) => no_segment(),
+        Transport::Tcp(s) => Segment {
+            quad: Quad {
+                source: p.source,
+                destination: p.destination,
+                ports: wide32(s.source) * 65536 + wide32(s.destination),
+            },
+            kind: flag_kind(s.fin, s.syn, s.rst, s.ack),
+        },
+    }
+}
+
+fn id_at(t: Table, d: usize) -> u16
+    ensures { λ r. ⌜ r ≡ idAt t d ⌝ }
+{
+    if d < DEFAULT {
+        t.rules[d].id
+    } else {
+        Answer::NO_RULE
+    }
+}
+
+// The mismatch event of the best fit. With no active rule: link and 65,535.
+fn write_best(t: Table, state: usize, frame: &[u8], l: Layers, space: &mut [u8]) -> usize
+    requires { ⌜ (state < 8) × (t .rulecount ≤ 64) ⌝ }
+    requires { ⌜ Inside (now frame) l ⌝ }
+    requires { ⌜ 14 ≤ length (now frame) ⌝ }
+    requires { ⌜ 256 ≤ length (now space) ⌝ }
+    ensures { λ r. ⌜ Wrote (bestEvent t state (now (frame .entry)) l) (now (space .entry)) (now (space .exit)) r ⌝ }
+{
+    let best = best_fit(t, state, frame, l);
+    let place = best.place;
+    if place < DEFAULT {
+        let r = t.rules[place];
+        return write(mismatch(r, best.layer), r.id, frame, l, space);
+    }
+    write(Event::LinkMismatch, Answer::NO_RULE, frame, l, space)
+}
+
+// The event of a verdict, at the start of the space. Verdicts 0, 1 and 2 have none.
+fn write_event(
+    t: Table,
+    state: usize,
+    frame: &[u8],
+    l: Layers,
+    d: usize,
+    v: Verdict,
+    space: &mut [u8],
+) -> usize
+    requires { ⌜ (state < 8) × (t .rulecount ≤ 64) ⌝ }
+    requires { ⌜ Inside (now frame) l ⌝ }
+    requires { ⌜ 14 ≤ length (now frame) ⌝ }
+    requires { ⌜ 256 ≤ length (now space) ⌝ }
+    ensures { λ r. ⌜ Wrote (eventOf t state (now (frame .entry)) l d (v .number)) (now (space .entry)) (now (space .exit)) r ⌝ }
+{
+    if v.number == Verdict::OVER_RATE {
+        return write(Event::Ratelimit, id_at(t, d), frame, l, space);
+    }
+    if v.number == Verdict::WRONG_STEP {
+        return write(Event::StateTransition, id_at(t, d), frame, l, space);
+    }
+    if v.number == Verdict::NO_PLACE_FREE {
+        return write(Event::MaxConnections, id_at(t, d), frame, l, space);
+    }
+    if v.number == Verdict::BLOCKED_BY_DEFAULT {
+        return write_best(t, state, frame, l, space);
+    }
+    0
+}
+
+// Steps 1 to 5, and the event.
+pub fn step(
+    t: Table,
+    frame: &[u8],
+    l: Layers,
+    reading: u64,
+    head: &mut Head,
+    counts: &mut Counts,
+    places: &mut Places,
+    space: &mut [u8],
+) -> Answer
+    requires { ⌜ faultOf t ≡ fault.Good ⌝ }
+    requires { ⌜ recordsGood t (recordsOf (words (now head) (now counts) (now places))) ≡ true ⌝ }
+    requires { ⌜ shownOf (now frame) ≡ shown.Shows l ⌝ }
+    requires { ⌜ 256 ≤ length (now space) ⌝ }
+    ensures { λ r. ⌜ record { verdict = r .verdict .number; rule = r .rule; length = r .length; words = words (now (head .exit)) (now (counts .exit)) (now (places .exit)); space = now (space .exit) } ≡ steppedAs (outcomeOf t (recordsOf (words (now (head .entry)) (now (counts .entry)) (now (places .entry)))) (record { reading = reading; bytes = now (frame .entry) }) l) (now (space .entry)) ⌝ }
+    ensures { λ r. ⌜ recordsOf (words (now (head .exit)) (now (counts .exit)) (now (places .exit))) ≡ outcomeOf t (recordsOf (words (now (head .entry)) (now (counts .entry)) (now (places .entry)))) (record { reading = reading; bytes = now (frame .entry) }) l .records ⌝ }
+{
+    let state = head[ACTIVE] as usize;
+    let ip = l.ip;
+    let transport = l.transport;
+    let g = segment(ip, transport);
+    let d = decider(t, state, frame, l);
+    tick(t, reading, head, counts, places);
+    let v = act(t, g, d, head, counts, places);
+    shape(*head, *counts, *places);
+    let length = write_event(t, state, frame, l, d, v, space);
+    Answer {
+        verdict: v,
+        rule: id_at(t, d),
+        length,
+    }
+}

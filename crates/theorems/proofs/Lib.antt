@@ -1,0 +1,8 @@
+pub mod Machine
+pub mod Calls
+pub mod Kept
+pub mod Swap
+pub mod Counts
+pub mod Clock
+pub mod Same
+pub mod Worked

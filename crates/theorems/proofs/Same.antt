@@ -1,0 +1,82 @@
+-- Any two outcomes that the statement of a call allows are equal: an answer is told by what it says. Assumes nothing.
+use Prim.Native.Nat.{ℕ}
+use mathlib.Core.Path.{_≡_, refl, sym, ap, _∙_}
+use mathlib.Core.List.{List}
+use Rattle.records.specs.Records.{Words}
+use Rattle.steps.specs.declared.Answer.{Answer}
+use Rattle.firewall.specs.Firewall.{Said, refused, answered, After, Left, saidChecked, saidStarted, saidSwitched, saidJudged}
+use Rattle.firewall.specs.declared.refusal.Refusal.{Refusal}
+use Rattle.firewall.specs.declared.Checked.{Checked}
+use Rattle.firewall.specs.declared.Checked.the-variants as checked
+use Rattle.firewall.specs.declared.Started.{Started}
+use Rattle.firewall.specs.declared.Started.the-variants as started
+use Rattle.firewall.specs.declared.Switched.{Switched}
+use Rattle.firewall.specs.declared.Switched.the-variants as switched
+use Rattle.firewall.specs.declared.Judged.{Judged}
+use Rattle.firewall.specs.declared.Judged.the-variants as judged
+use Rattle.theorems.specs.Unique.{leaves, writes, Unique}
+
+-- ---- what is said tells the answer
+
+refusal-same : (r q : Refusal) → refused (r .number) (r .place) ≡ refused (q .number) (q .place) → r ≡ q
+refusal-same r q e =
+    let n : r .number ≡ q .number = cc in
+    let p : r .place ≡ q .place = cc in
+    λ i. record { number = n i; place = p i }
+
+answer-same :
+    (a b : Answer) → answered (a .verdict .number) (a .rule) (a .length) ≡ answered (b .verdict .number) (b .rule) (b .length)
+    → a ≡ b
+answer-same a b e =
+    let v : a .verdict .number ≡ b .verdict .number = cc in
+    let r : a .rule ≡ b .rule = cc in
+    let n : a .length ≡ b .length = cc in
+    λ i. record { verdict = record { number = v i }; rule = r i; length = n i }
+
+checked-same : (r q : Checked) → saidChecked r ≡ saidChecked q → r ≡ q
+checked-same (checked.Refused r) (checked.Refused q) e = ap checked.Refused (refusal-same r q e)
+checked-same (checked.Refused r) checked.Good e = cc
+checked-same checked.Good (checked.Refused q) e = cc
+checked-same checked.Good checked.Good e = refl
+
+started-same : (r q : Started) → saidStarted r ≡ saidStarted q → r ≡ q
+started-same (started.Refused r) (started.Refused q) e = ap started.Refused (refusal-same r q e)
+started-same (started.Refused r) started.Fresh e = cc
+started-same started.Fresh (started.Refused q) e = cc
+started-same started.Fresh started.Fresh e = refl
+
+switched-same : (r q : Switched) → saidSwitched r ≡ saidSwitched q → r ≡ q
+switched-same (switched.Refused r) (switched.Refused q) e = ap switched.Refused (refusal-same r q e)
+switched-same (switched.Refused r) switched.Done e = cc
+switched-same switched.Done (switched.Refused q) e = cc
+switched-same switched.Done switched.Done e = refl
+
+judged-same : (r q : Judged) → saidJudged r ≡ saidJudged q → r ≡ q
+judged-same (judged.Refused r) (judged.Refused q) e = ap judged.Refused (refusal-same r q e)
+judged-same (judged.Refused r) (judged.Answered b) e = cc
+judged-same (judged.Answered a) (judged.Refused q) e = cc
+judged-same (judged.Answered a) (judged.Answered b) e = ap judged.Answered (answer-same a b e)
+
+-- ---- so does what is left
+
+module _ {R : Type 0} (say : R → Said) (same : (r q : R) → say r ≡ say q → r ≡ q) where
+  left-same : (x : Left) (r q : R) (v u : Words) → leaves (say r) v ≡ x → leaves (say q) u ≡ x → (r ≡ q) × (v ≡ u)
+  left-same x r q v u e f = (same r q (ap (λ (z : Left). z .said) (e ∙ sym f)), ap (λ (z : Left). z .words) (e ∙ sym f))
+
+  after-same :
+      (z : After) (r q : R) (v u : Words) (x y : List ℕ) → writes (say r) v x ≡ z → writes (say q) u y ≡ z
+      → (r ≡ q) × (v ≡ u) × (x ≡ y)
+  after-same z r q v u x y e f = (
+    same r q (ap (λ (z : After). z .said) (e ∙ sym f)),
+    ap (λ (z : After). z .words) (e ∙ sym f),
+    ap (λ (z : After). z .space) (e ∙ sym f),
+  )
+
+pub unique : Unique
+unique = record {
+  read = λ bytes r q e f. e ∙ sym f;
+  check = λ t w r q e f. checked-same r q (e ∙ sym f);
+  fresh = λ t reading w. left-same saidStarted started-same _;
+  switch = λ t state w. left-same saidSwitched switched-same _;
+  judge = λ t w a space. after-same saidJudged judged-same _;
+}

@@ -1,0 +1,4 @@
+pub mod Run
+pub mod Statements
+pub mod Unique
+pub mod Worked
