@@ -20,7 +20,7 @@ ghost use Rattle.firewall.specs.Firewall.{
 
 pub mod refusal;
 
-use crate::refusal::Refusal;
+pub use crate::refusal::Refusal;
 use layers::Shown;
 use records::Counts;
 use records::Head;

@@ -7,3 +7,4 @@ pub mod TimeLaws
 pub mod ActLaws
 pub mod GoodCode
 pub mod ShapeLaws
+pub mod ScanLaws

@@ -2,3 +2,4 @@ pub mod Records
 pub mod Rule
 pub mod Good
 pub mod Step
+pub mod Scan

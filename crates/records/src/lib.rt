@@ -3,6 +3,7 @@ pub mod act;
 pub mod fresh;
 pub mod good;
 pub mod rate;
+pub mod scan;
 pub mod shape;
 pub mod time;
 pub mod track;

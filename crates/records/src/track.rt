@@ -6,6 +6,7 @@ ghost use lib.ListN.{getD};
 ghost use Rattle.numbers.specs.Lists.{first};
 ghost use Rattle.records.specs.Records.{placeOf, free};
 ghost use Rattle.records.specs.Rule.{kindOf, holds, isFree, heldAt, phaseOf, phaseWord, nextOf, heldAs, moved, opened, begun, trackedIn, trackedAs};
+use crate::scan::find;
 use crate::shape::*;
 use crate::verdict::Verdict;
 use crate::*;
@@ -49,31 +50,22 @@ pub(crate) fn is_held_by(q: Quad, p: &PlaceWords) -> bool
 fn find_quad(q: Quad, ps: &RowWords) -> usize
     ensures { λ x. ⌜ x ≡ heldAt q (map placeOf (now (ps .entry))) ⌝ }
 {
-    eight(*ps);
-    let mut j: usize = 0;
-    while j < 8 {
-        if is_held_by(q, &ps[j]) {
-            return j;
-        }
-        j += 1;
-    }
-    8
+    let found = find(q, ps);
+    found.held
 }
 
-// The first free place of n, or n.
+// The first free place of n, or n. It is found whatever the quadruple.
 fn find_free(n: usize, ps: &RowWords) -> usize
     requires { ⌜ n ≤ 8 ⌝ }
     ensures { λ x. ⌜ x ≡ first (λ j. isFree (getD (map placeOf (now (ps .entry))) j free)) n ⌝ }
 {
-    eight(*ps);
-    let mut j: usize = 0;
-    while j < n {
-        if ps[j][STATE] == 0 {
-            return j;
-        }
-        j += 1;
-    }
-    n
+    let none = Quad {
+        source: 0,
+        destination: 0,
+        ports: 0,
+    };
+    let found = find(none, ps);
+    if found.free < n { found.free } else { n }
 }
 
 // ---- the table of the paper

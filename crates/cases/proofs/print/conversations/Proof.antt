@@ -1,0 +1,69 @@
+use borrow.Author.Needs.{needs}
+use Prim.Native.Nat.{_-_}
+use Rattle.cases.proofs.print.conversations.Statement.{statement}
+use Rattle.cases.proofs.print.conversations.Tie as tie
+
+abbrev Inv-loop : tie.InvT-loop
+Inv-loop k places out₀ used₀ j₀ out used j = Unit {0}
+
+abbrev μ-loop : tie.MeasureT-loop
+μ-loop k places out₀ used₀ j₀ out used j = 8 - j
+
+loop-holds : tie.Need-loop-holds Inv-loop μ-loop
+loop-holds c = search needs
+
+mul-if1 : tie.Need-mul-if1 Inv-loop μ-loop
+mul-if1 c = search needs
+
+index-1-if1 : tie.Need-index-1-if1 Inv-loop μ-loop
+index-1-if1 c = search needs
+
+index-2-if1 : tie.Need-index-2-if1 Inv-loop μ-loop
+index-2-if1 c = search needs
+
+mul-conversation : tie.Need-mul-conversation Inv-loop μ-loop
+mul-conversation c = search needs
+
+index-1-conversation : tie.Need-index-1-conversation Inv-loop μ-loop
+index-1-conversation c = search needs
+
+conversation-requires : tie.Need-conversation-requires Inv-loop μ-loop
+conversation-requires c κs = search needs
+
+slice-aggregate-line : tie.Need-slice-aggregate-line Inv-loop μ-loop
+slice-aggregate-line c = search needs
+
+line-requires : tie.Need-line-requires Inv-loop μ-loop
+line-requires c κs = search needs
+
+add-j : tie.Need-add-j Inv-loop μ-loop
+add-j c = search needs
+
+loop-less : tie.Need-loop-less Inv-loop μ-loop
+loop-less c = search needs
+
+loop-again : tie.Need-loop-again Inv-loop μ-loop
+loop-again c = search needs
+
+returns : tie.Need-returns Inv-loop μ-loop
+returns c = search needs
+
+pub conversations-spec : {M : Type 1} → statement M
+conversations-spec =
+    tie.close
+    (tie.spec
+    Inv-loop
+    μ-loop
+    loop-holds
+    mul-if1
+    index-1-if1
+    index-2-if1
+    mul-conversation
+    index-1-conversation
+    conversation-requires
+    slice-aggregate-line
+    line-requires
+    add-j
+    loop-less
+    loop-again
+    returns)

@@ -1,0 +1,65 @@
+use borrow.Author.Needs.{needs}
+use Prim.Native.Nat.{_-_}
+use Rattle.cases.proofs.print.empty.Statement.{statement}
+use Rattle.cases.proofs.print.empty.Tie as tie
+
+abbrev Inv-loop : tie.InvT-loop
+Inv-loop counts places j₀ j = Unit {0}
+
+abbrev μ-loop : tie.MeasureT-loop
+μ-loop counts places j₀ j = 8 - j
+
+loop-holds : tie.Need-loop-holds Inv-loop μ-loop
+loop-holds c = search needs
+
+mul-if1 : tie.Need-mul-if1 Inv-loop μ-loop
+mul-if1 c = search needs
+
+index-1-if1 : tie.Need-index-1-if1 Inv-loop μ-loop
+index-1-if1 c = search needs
+
+index-2-if1 : tie.Need-index-2-if1 Inv-loop μ-loop
+index-2-if1 c = search needs
+
+returns : tie.Need-returns Inv-loop μ-loop
+returns c = search needs
+
+add-j : tie.Need-add-j Inv-loop μ-loop
+add-j c = search needs
+
+loop-less : tie.Need-loop-less Inv-loop μ-loop
+loop-less c = search needs
+
+loop-again : tie.Need-loop-again Inv-loop μ-loop
+loop-again c = search needs
+
+element-copy-out-result : tie.Need-element-copy-out-result Inv-loop μ-loop
+element-copy-out-result c = search needs
+
+element-copy-out-result-2 : tie.Need-element-copy-out-result-2 Inv-loop μ-loop
+element-copy-out-result-2 c = search needs
+
+element-copy-out-result-3 : tie.Need-element-copy-out-result-3 Inv-loop μ-loop
+element-copy-out-result-3 c = search needs
+
+returns-2 : tie.Need-returns-2 Inv-loop μ-loop
+returns-2 c = search needs
+
+pub empty-spec : {M : Type 1} → statement M
+empty-spec =
+    tie.close
+    (tie.spec
+    Inv-loop
+    μ-loop
+    loop-holds
+    mul-if1
+    index-1-if1
+    index-2-if1
+    returns
+    add-j
+    loop-less
+    loop-again
+    element-copy-out-result
+    element-copy-out-result-2
+    element-copy-out-result-3
+    returns-2)

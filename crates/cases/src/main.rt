@@ -1,0 +1,43 @@
+// Reads a stream of calls, makes each through the entry points, and prints what they answered (docs/CASES.md).
+mod calls;
+mod image;
+mod input;
+mod output;
+mod print;
+
+use image::Image;
+use input::Got;
+use records::{Counts, Head, Places};
+
+// The calls one after the other, with the table and the records held from one to the next. Nothing says that an input
+// ends, so the turns are counted down from a number that no run uses up.
+fn run(buf: &mut [u8; 65536], image: &mut Image, out: &mut [u8; 65536], used: &mut usize) {
+    let mut span = [0usize; 2];
+    let mut head: Head = [0; 2];
+    let mut counts: Counts = [[0; 3]; 65];
+    let mut places: Places = [[[0; 5]; 8]; 64];
+    let mut t = image::table_of(image);
+    let mut turns = u64::MAX;
+    while turns > 0 {
+        let Got::Byte(letter) = input::next(buf, &mut span) else {
+            return;
+        };
+        if !calls::call(letter, t, buf, &mut span, image, &mut head, &mut counts, &mut places, out, used) {
+            print::alone(b'?', out, used);
+            return;
+        }
+        if letter == b'T' {
+            t = image::table_of(image);
+        }
+        turns -= 1;
+    }
+}
+
+fn main() {
+    let mut buf = io::large_buffer();
+    let mut out = io::large_buffer();
+    let mut image = [0u8; 33812];
+    let mut used = 0;
+    run(&mut buf, &mut image, &mut out, &mut used);
+    output::flush(out, used);
+}

@@ -1,0 +1,263 @@
+// The lines that are printed of an answer and of the records.
+use crate::output::{hex, put, row, text};
+use firewall::refusal::Refusal;
+use firewall::{Checked, Judged, Started, Switched};
+use layers::{Ip, Layers, Link, Message, Packet, Segment, Shown, Someip, Tag, Transport};
+use numbers::wide64;
+use records::{Counts, Head, Places};
+use steps::Answer;
+
+fn byte(x: u8) -> u64 {
+    x as u64
+}
+
+fn short(x: u16) -> u64 {
+    x as u64
+}
+
+fn count(x: usize) -> u64 {
+    x as u64
+}
+
+fn flag(x: bool) -> u64 {
+    if x { 1 } else { 0 }
+}
+
+// A line of a letter alone.
+pub fn alone(letter: u8, out: &mut [u8; 65536], used: &mut usize) {
+    put(out, used, letter);
+    put(out, used, b'\n');
+}
+
+fn refusal(number: u8, place: usize, out: &mut [u8; 65536], used: &mut usize) {
+    put(out, used, b'X');
+    row(out, used, b' ', b' ', &[byte(number), count(place)]);
+}
+
+fn refused(r: Refusal, out: &mut [u8; 65536], used: &mut usize) {
+    refusal(r.number, r.place, out, used);
+    put(out, used, b'\n');
+}
+
+pub fn checked(answer: Checked, out: &mut [u8; 65536], used: &mut usize) {
+    match answer {
+        Checked::Refused(r) => refused(r, out, used),
+        Checked::Good => alone(b'C', out, used),
+    }
+}
+
+pub fn started(answer: Started, out: &mut [u8; 65536], used: &mut usize) {
+    match answer {
+        Started::Refused(r) => refused(r, out, used),
+        Started::Fresh => alone(b'F', out, used),
+    }
+}
+
+pub fn switched(answer: Switched, out: &mut [u8; 65536], used: &mut usize) {
+    match answer {
+        Switched::Refused(r) => refused(r, out, used),
+        Switched::Done => alone(b'V', out, used),
+    }
+}
+
+pub fn judged(answer: Judged, space: [u8; 512], out: &mut [u8; 65536], used: &mut usize) {
+    match answer {
+        Judged::Refused(r) => {
+            refusal(r.number, r.place, out, used);
+            ended(&space, 0, out, used);
+        }
+        Judged::Answered(a) => answered(a, &space, out, used),
+    }
+}
+
+fn answered(a: Answer, space: &[u8; 512], out: &mut [u8; 65536], used: &mut usize) {
+    let verdict = a.verdict;
+    let length = a.length;
+    put(out, used, b'J');
+    row(out, used, b' ', b' ', &[byte(verdict.number), short(a.rule), count(length)]);
+    event(space, length, out, used);
+    ended(space, length, out, used);
+}
+
+fn event(space: &[u8; 512], length: usize, out: &mut [u8; 65536], used: &mut usize) {
+    if length == 0 {
+        text(out, used, b" -");
+    } else {
+        put(out, used, b' ');
+        digits(space, length, out, used);
+    }
+}
+
+fn digits(space: &[u8; 512], length: usize, out: &mut [u8; 65536], used: &mut usize) {
+    let mut i = 0;
+    while i < length {
+        if 512 <= i {
+            return;
+        }
+        hex(out, used, byte(space[i]), 2);
+        i += 1;
+    }
+}
+
+// Is a byte from here on no longer 170?
+fn dirty(space: &[u8; 512], from: usize) -> bool {
+    let mut i = from;
+    while i < 512 {
+        if space[i] != 170 {
+            return true;
+        }
+        i += 1;
+    }
+    false
+}
+
+fn ended(space: &[u8; 512], length: usize, out: &mut [u8; 65536], used: &mut usize) {
+    if dirty(space, length) {
+        text(out, used, b" dirty\n");
+    } else {
+        put(out, used, b'\n');
+    }
+}
+
+pub fn shown(answer: Shown, out: &mut [u8; 65536], used: &mut usize) {
+    match answer {
+        Shown::Refused(r) => refusal(r.number, 0, out, used),
+        Shown::Shows(l) => frame(l, out, used),
+    }
+    put(out, used, b'\n');
+}
+
+fn frame(l: Layers, out: &mut [u8; 65536], used: &mut usize) {
+    put(out, used, b'L');
+    link(l.link, out, used);
+    let i = l.ip;
+    ip(i, out, used);
+    let t = l.transport;
+    transport(t, out, used);
+    let s = l.someip;
+    someip(s, out, used);
+}
+
+fn link(l: Link, out: &mut [u8; 65536], used: &mut usize) {
+    put(out, used, b' ');
+    hex(out, used, l.dst, 12);
+    put(out, used, b' ');
+    hex(out, used, l.src, 12);
+    let t = l.tag;
+    tag(t, out, used);
+    row(out, used, b' ', b' ', &[short(l.ether)]);
+}
+
+fn tag(t: Tag, out: &mut [u8; 65536], used: &mut usize) {
+    match t {
+        Tag::Untagged => text(out, used, b" -"),
+        Tag::Tagged { priority, vlan } => row(out, used, b' ', b',', &[byte(priority), short(vlan)]),
+    }
+}
+
+fn ip(i: Ip, out: &mut [u8; 65536], used: &mut usize) {
+    match i {
+        Ip::Absent => text(out, used, b" -"),
+        Ip::V4(p) => row(out, used, b' ', b',', &packet(p)),
+    }
+}
+
+fn packet(p: Packet) -> [u64; 4] {
+    [wide64(p.source), wide64(p.destination), byte(p.protocol), count(p.hlen)]
+}
+
+fn transport(t: Transport, out: &mut [u8; 65536], used: &mut usize) {
+    match t {
+        Transport::Absent => text(out, used, b" -"),
+        Transport::Tcp(s) => {
+            text(out, used, b" T");
+            row(out, used, b',', b',', &segment(s));
+        }
+        Transport::Udp(d) => {
+            text(out, used, b" U");
+            row(out, used, b',', b',', &[short(d.source), short(d.destination)]);
+        }
+    }
+}
+
+fn segment(s: Segment) -> [u64; 7] {
+    [short(s.source), short(s.destination), flag(s.fin), flag(s.syn), flag(s.rst), flag(s.ack), count(s.hlen)]
+}
+
+fn someip(s: Someip, out: &mut [u8; 65536], used: &mut usize) {
+    match s {
+        Someip::Absent => text(out, used, b" -"),
+        Someip::Present(m) => row(out, used, b' ', b',', &message(m)),
+    }
+}
+
+fn message(m: Message) -> [u64; 5] {
+    [short(m.service), short(m.method), byte(m.version), byte(m.kind), byte(m.code)]
+}
+
+pub fn all_records(head: &Head, counts: &Counts, places: &Places, out: &mut [u8; 65536], used: &mut usize) -> bool {
+    line(b'P', &totals(head, &counts[64]), out, used);
+    let mut k = 0;
+    while k < 64 {
+        rule(k, &counts[k], &places[k], out, used);
+        k += 1;
+    }
+    alone(b'.', out, used);
+    true
+}
+
+// A letter and numbers.
+fn line(letter: u8, numbers: &[u64], out: &mut [u8; 65536], used: &mut usize) {
+    put(out, used, letter);
+    row(out, used, b' ', b' ', numbers);
+    put(out, used, b'\n');
+}
+
+// Of the words of the records, and the default's counts.
+fn totals(head: &Head, counts: &[u32; 3]) -> [u64; 4] {
+    [head[0], head[1], wide64(counts[1]), wide64(counts[2])]
+}
+
+fn rule(k: usize, counts: &[u32; 3], places: &[[u32; 5]; 8], out: &mut [u8; 65536], used: &mut usize) {
+    if empty(counts, places) {
+        return;
+    }
+    line(b'p', &[count(k), wide64(counts[0]), wide64(counts[1]), wide64(counts[2])], out, used);
+    conversations(k, places, out, used);
+}
+
+fn conversations(k: usize, places: &[[u32; 5]; 8], out: &mut [u8; 65536], used: &mut usize) {
+    let mut j = 0;
+    while j < 8 {
+        if places[j][0] != 0 {
+            line(b'c', &conversation(k, j, &places[j]), out, used);
+        }
+        j += 1;
+    }
+}
+
+fn conversation(k: usize, j: usize, place: &[u32; 5]) -> [u64; 8] {
+    let ports = place[3];
+    [
+        count(k),
+        count(j),
+        wide64(place[1]),
+        wide64(place[2]),
+        wide64(ports / 65536),
+        wide64(ports % 65536),
+        wide64(place[0]),
+        wide64(place[4]),
+    ]
+}
+
+// No level, no count and no conversation.
+fn empty(counts: &[u32; 3], places: &[[u32; 5]; 8]) -> bool {
+    let mut j = 0;
+    while j < 8 {
+        if places[j][0] != 0 {
+            return false;
+        }
+        j += 1;
+    }
+    (counts[0] == 0) & (counts[1] == 0) & (counts[2] == 0)
+}

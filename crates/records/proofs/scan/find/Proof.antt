@@ -1,0 +1,19 @@
+-- `records::scan::find` meets its contract: what the scan finds in the structs is what stands in the words.
+-- Assumes nothing.
+use native.Mathlib.Omega.{arith}
+use borrow.Author.Needs.{needs}
+use Rattle.records.proofs.ScanLaws.{found-eight}
+use Rattle.records.proofs.scan.find.Statement.{statement}
+use Rattle.records.proofs.scan.find.Tie as tie
+
+load-requires : tie.Need-load-requires
+load-requires c κs = search needs
+
+scan-in-requires : tie.Need-scan-in-requires
+scan-in-requires c κs = search needs
+
+returns : tie.Need-returns
+returns c = found-eight _ _ _ _ (omega arith) (c .before .load .ensures) (c .scan-in .ensures)
+
+pub find-spec : {M : Type 1} → statement M
+find-spec = tie.close (tie.spec load-requires scan-in-requires returns)

@@ -1,0 +1,164 @@
+// A line of the output, filled in at fixed columns.
+ghost use Prim.Native.Nat.{_≤_};
+use firewall::refusal::Refusal;
+use firewall::Judged;
+use numbers::{read16, wide64};
+use steps::Answer;
+
+pub type Line = [u8; 128];
+
+const READING: usize = 42;
+const VERDICT: usize = 44;
+const RULE: usize = 67;
+const EVENT: usize = 76;
+pub const FIRST: usize = 92;
+pub const SECOND: usize = 108;
+
+pub fn put(line: &mut Line, at: usize, s: &[u8]) {
+    let mut to = at;
+    let mut i = 0;
+    while i < s.len() {
+        if 128 <= to {
+            return;
+        }
+        line[to] = s[i];
+        to += 1;
+        i += 1;
+    }
+}
+
+// A number that ends before a column.
+fn number(line: &mut Line, end: usize, n: u64) {
+    let mut digits = [0u8; 20];
+    let k = io::decimal(n, &mut digits);
+    if k <= end {
+        put(line, end - k, &digits[..k]);
+    }
+}
+
+fn length(line: &Line) -> usize {
+    let mut n = 128;
+    while 0 < n {
+        if line[n - 1] != b' ' {
+            return n;
+        }
+        n -= 1;
+    }
+    0
+}
+
+pub fn print(line: Line) {
+    let n = length(&line);
+    if n <= 128 {
+        io::write_all(libc::STDOUT_FILENO, &line[0..n]);
+    }
+    io::write_all(libc::STDOUT_FILENO, b"\n");
+}
+
+// The line of a judged frame, but for what is said of the records.
+pub fn judged(label: &[u8], reading: u64, answer: Judged, space: &[u8; 256]) -> Line {
+    let mut line = [b' '; 128];
+    put(&mut line, 0, label);
+    number(&mut line, READING, reading);
+    match answer {
+        Judged::Refused(r) => refused(&mut line, r),
+        Judged::Answered(a) => answered(&mut line, a, space),
+    }
+    line
+}
+
+fn refused(line: &mut Line, r: Refusal) {
+    let n = r.number;
+    put(line, VERDICT, b"refused");
+    number(line, VERDICT + 9, n as u64);
+    match n {
+        1 => put(line, VERDICT + 10, b"too short"),
+        2 => put(line, VERDICT + 10, b"too long"),
+        _ => {}
+    }
+}
+
+fn answered(line: &mut Line, a: Answer, space: &[u8; 256]) {
+    let v = a.verdict;
+    let n = v.number;
+    number(line, VERDICT + 1, n as u64);
+    verdict(line, n);
+    rule(line, a.rule);
+    event(line, a.length, space);
+}
+
+fn verdict(line: &mut Line, n: u8) {
+    match n {
+        0 => put(line, VERDICT + 2, b"allowed"),
+        1 => put(line, VERDICT + 2, b"allowed by default"),
+        2 => put(line, VERDICT + 2, b"blocked by rule"),
+        3 => put(line, VERDICT + 2, b"over rate"),
+        4 => put(line, VERDICT + 2, b"wrong step"),
+        5 => put(line, VERDICT + 2, b"no place free"),
+        _ => put(line, VERDICT + 2, b"blocked by default"),
+    }
+}
+
+fn rule(line: &mut Line, id: u16) {
+    if id == 65535 {
+        put(line, RULE, b"default");
+    } else {
+        number(line, RULE + 7, id as u64);
+    }
+}
+
+fn event(line: &mut Line, length: usize, space: &[u8; 256]) {
+    if length == 0 {
+        put(line, EVENT, b"none");
+        return;
+    }
+    number(line, EVENT + 2, short(read16(space, 0)));
+    put(line, EVENT + 3, b"of rule");
+    number(line, EVENT + 13, short(read16(space, 2)));
+}
+
+fn short(x: u16) -> u64 {
+    x as u64
+}
+
+pub fn level(mut line: Line, at: usize, n: u32) -> Line
+    requires { ⌜ at ≤ 108 ⌝ }
+{
+    put(&mut line, at, b"level");
+    number(&mut line, at + 11, wide64(n));
+    line
+}
+
+// A place for a conversation: free, or its state and age.
+pub fn place(mut line: Line, at: usize, words: &[u32; 5]) -> Line
+    requires { ⌜ at ≤ 108 ⌝ }
+{
+    let state = words[0];
+    if state == 0 {
+        put(&mut line, at, b"free");
+        return line;
+    }
+    phase(&mut line, at, state);
+    number(&mut line, at + 11, wide64(words[4]));
+    put(&mut line, at + 12, b"ms");
+    line
+}
+
+fn phase(line: &mut Line, at: usize, state: u32) {
+    match state {
+        1 => put(line, at, b"Opening"),
+        2 => put(line, at, b"Running"),
+        _ => put(line, at, b"Closing"),
+    }
+}
+
+pub fn title() {
+    let mut line = [b' '; 128];
+    put(&mut line, 5, b"frame");
+    put(&mut line, READING - 7, b"reading");
+    put(&mut line, VERDICT, b"verdict");
+    put(&mut line, RULE + 3, b"rule");
+    put(&mut line, EVENT, b"event");
+    put(&mut line, FIRST, b"records");
+    print(line);
+}

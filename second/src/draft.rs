@@ -1,0 +1,261 @@
+//! Frames as the generator drafts them: fields first, then bytes, then what is broken on purpose.
+
+use crate::layers::{Kind, ETHER_IPV4, ETHER_TAG, PROTOCOL_TCP, PROTOCOL_UDP};
+use crate::random::Random;
+
+/// What is broken on purpose. The checksum is right after all but `Checksum` and those that touch bytes at the end.
+#[derive(Clone, Copy, PartialEq, Eq, Debug)]
+pub enum Damage {
+    None,
+    MoreFragments,
+    FragmentOffset,
+    Padding,
+    Cut,
+    CutDeep,
+    Checksum,
+    Version,
+    FewWords,
+    ManyWords,
+    TotalBelowHeader,
+    TotalBeyondRest,
+    UdpLength,
+    ShortTcp,
+    ShortUdp,
+    TcpOffsetLow,
+    TcpOffsetHigh,
+    MessageLengthLow,
+    MessageLengthHigh,
+    ShortMessage,
+    Flip,
+}
+
+pub const DAMAGES: [Damage; 20] = [
+    Damage::MoreFragments,
+    Damage::FragmentOffset,
+    Damage::Padding,
+    Damage::Cut,
+    Damage::CutDeep,
+    Damage::Checksum,
+    Damage::Version,
+    Damage::FewWords,
+    Damage::ManyWords,
+    Damage::TotalBelowHeader,
+    Damage::TotalBeyondRest,
+    Damage::UdpLength,
+    Damage::ShortTcp,
+    Damage::ShortUdp,
+    Damage::TcpOffsetLow,
+    Damage::TcpOffsetHigh,
+    Damage::MessageLengthLow,
+    Damage::MessageLengthHigh,
+    Damage::ShortMessage,
+    Damage::Flip,
+];
+
+#[derive(Clone, Copy, Debug)]
+pub struct Message {
+    pub service: u16,
+    pub method: u16,
+    pub version: u8,
+    pub message: u8,
+    pub code: u8,
+}
+
+#[derive(Clone, Debug)]
+pub struct Draft {
+    pub dst: u64,
+    pub src: u64,
+    /// Priority and VLAN id as one word, for each tag; only the first is ever read.
+    pub tags: Vec<u16>,
+    pub ether: u16,
+    /// Whether an IPv4 packet follows, whatever the ether type says.
+    pub ip: bool,
+    pub source: u32,
+    pub destination: u32,
+    pub protocol: Option<u8>,
+    pub ip_options: usize,
+    pub kind: Kind,
+    pub sport: u16,
+    pub dport: u16,
+    pub flags: u8,
+    pub tcp_options: usize,
+    pub message: Option<Message>,
+    pub payload: usize,
+    pub damage: Damage,
+}
+
+fn noise(bytes: &mut Vec<u8>, length: usize, random: &mut Random) {
+    bytes.extend((0..length).map(|_| random.next() as u8));
+}
+
+impl Draft {
+    /// Makes the draft one in which its damage shows.
+    pub fn show_damage(&mut self) {
+        self.tags.truncate(1);
+        (self.ether, self.ip, self.protocol) = (ETHER_IPV4, true, None);
+        match self.damage {
+            Damage::ShortTcp | Damage::TcpOffsetLow | Damage::TcpOffsetHigh => self.kind = Kind::Tcp,
+            Damage::ShortUdp | Damage::UdpLength | Damage::ShortMessage => self.kind = Kind::Udp,
+            Damage::MessageLengthLow | Damage::MessageLengthHigh => self.kind = Kind::Udp,
+            _ => {}
+        }
+    }
+
+    pub fn bytes(&self, random: &mut Random) -> Vec<u8> {
+        let mut bytes = self.link();
+        if self.ip {
+            let packet = self.packet(random);
+            bytes.extend(packet);
+        } else {
+            noise(&mut bytes, self.payload, random);
+        }
+        match self.damage {
+            Damage::Padding => noise(&mut bytes, random.between(1, 20) as usize, random),
+            Damage::CutDeep => bytes.truncate(random.between(14, 40) as usize),
+            Damage::Cut => bytes.truncate(bytes.len() - random.between(1, 6) as usize),
+            Damage::Flip => {
+                let at = random.below(bytes.len() as u64) as usize;
+                bytes[at] ^= 1 << random.below(8);
+            }
+            _ => {}
+        }
+        bytes
+    }
+
+    fn link(&self) -> Vec<u8> {
+        let mut bytes = self.dst.to_be_bytes()[2..].to_vec();
+        bytes.extend(&self.src.to_be_bytes()[2..]);
+        for tag in &self.tags {
+            bytes.extend([ETHER_TAG.to_be_bytes(), tag.to_be_bytes()].concat());
+        }
+        bytes.extend(self.ether.to_be_bytes());
+        bytes
+    }
+
+    fn packet(&self, random: &mut Random) -> Vec<u8> {
+        let payload = match self.kind {
+            Kind::Tcp => self.tcp(random),
+            Kind::Udp => self.udp(random),
+        };
+        let words = 5 + self.ip_options;
+        let total = 4 * words + payload.len();
+        let by_kind = if self.kind == Kind::Tcp { PROTOCOL_TCP } else { PROTOCOL_UDP };
+        let mut header = vec![0x40 | words as u8, random.next() as u8];
+        header.extend((total as u16).to_be_bytes());
+        noise(&mut header, 2, random);
+        // The bit for do-not-fragment and the one above it say nothing to the firewall.
+        header.extend([random.pick(&[0, 0x40, 0x80]), 0, 64, self.protocol.unwrap_or(by_kind), 0, 0]);
+        header.extend([self.source.to_be_bytes(), self.destination.to_be_bytes()].concat());
+        noise(&mut header, 4 * self.ip_options, random);
+        let mut packet = header;
+        packet.extend(payload);
+        self.damage_header(&mut packet, random);
+        sum_header(&mut packet);
+        if self.damage == Damage::Checksum {
+            packet[10 + random.below(2) as usize] ^= 1 << random.below(8);
+        }
+        packet
+    }
+
+    fn damage_header(&self, packet: &mut [u8], random: &mut Random) {
+        let words = packet[0] & 0x0f;
+        let total = packet.len() as u16;
+        match self.damage {
+            Damage::MoreFragments => packet[6] |= 0x20,
+            Damage::FragmentOffset => {
+                let offset = random.between(1, 0x1fff) as u16;
+                packet[6] |= (offset >> 8) as u8;
+                packet[7] = offset as u8;
+            }
+            Damage::Version => packet[0] = random.pick(&[0x00, 0x50, 0x60, 0xf0]) | words,
+            Damage::FewWords => packet[0] = 0x40 | random.below(5) as u8,
+            Damage::ManyWords => packet[0] = 0x4f,
+            Damage::TotalBelowHeader => {
+                let less = u16::from(4 * words) - random.between(1, 20) as u16;
+                packet[2..4].copy_from_slice(&less.to_be_bytes());
+            }
+            Damage::TotalBeyondRest => {
+                let more = total + random.pick(&[1, 1, 2, 40_000]);
+                packet[2..4].copy_from_slice(&more.to_be_bytes());
+            }
+            _ => {}
+        }
+    }
+
+    fn tcp(&self, random: &mut Random) -> Vec<u8> {
+        let mut bytes = [self.sport.to_be_bytes(), self.dport.to_be_bytes()].concat();
+        noise(&mut bytes, 8, random);
+        let words = match self.damage {
+            Damage::TcpOffsetLow => random.below(5) as u8,
+            Damage::TcpOffsetHigh => 15,
+            _ => 5 + self.tcp_options as u8,
+        };
+        // Tracking looks at four flags; the others come as they like.
+        let other = random.next() as u8 & 0xe8;
+        bytes.extend([words << 4 | random.below(16) as u8, self.flags | other]);
+        noise(&mut bytes, 6 + 4 * self.tcp_options + self.payload, random);
+        if self.damage == Damage::ShortTcp {
+            bytes.truncate(random.below(20) as usize);
+        }
+        if self.damage == Damage::TcpOffsetHigh {
+            bytes.truncate(random.between(20, 59) as usize);
+        }
+        bytes
+    }
+
+    fn udp(&self, random: &mut Random) -> Vec<u8> {
+        let mut content = self.message.map_or(vec![], |message| self.someip(&message, random));
+        noise(&mut content, self.payload, random);
+        if self.damage == Damage::ShortMessage {
+            content.truncate(random.below(16) as usize);
+        }
+        let mut length = 8 + content.len() as u16;
+        if self.damage == Damage::UdpLength {
+            length = length.wrapping_add(random.pick(&[1, 8, 1_000, 0xffff, 0xfff8]));
+        }
+        let mut bytes = [self.sport.to_be_bytes(), self.dport.to_be_bytes(), length.to_be_bytes()].concat();
+        noise(&mut bytes, 2, random);
+        bytes.extend(content);
+        if self.damage == Damage::ShortUdp {
+            bytes.truncate(random.below(8) as usize);
+        }
+        bytes
+    }
+
+    fn someip(&self, message: &Message, random: &mut Random) -> Vec<u8> {
+        let full = 8 + self.payload as u32;
+        let length = match self.damage {
+            Damage::MessageLengthLow => random.below(8) as u32,
+            Damage::MessageLengthHigh => full.saturating_add(random.pick(&[1, 1, 8, u32::MAX])),
+            _ if random.chance(20) => random.between(8, u64::from(full)) as u32,
+            _ => full,
+        };
+        let mut bytes = [message.service.to_be_bytes(), message.method.to_be_bytes()].concat();
+        bytes.extend(length.to_be_bytes());
+        noise(&mut bytes, 4, random);
+        bytes.extend([message.version, 1, message.message, message.code]);
+        bytes
+    }
+}
+
+/// Makes the header's words sum to 0xFFFF, over as many words as the header says it has and the packet holds.
+fn sum_header(packet: &mut [u8]) {
+    let header = (4 * usize::from(packet[0] & 0x0f)).clamp(20, packet.len().max(20)) & !1;
+    packet[10..12].fill(0);
+    let mut sum: u32 = packet[..header].chunks(2).map(|w| u32::from(w[0]) << 8 | u32::from(w[1])).sum();
+    while sum > 0xffff {
+        sum = (sum & 0xffff) + (sum >> 16);
+    }
+    packet[10..12].copy_from_slice(&(!sum as u16).to_be_bytes());
+}
+
+/// A frame of no sense: any length, sometimes with ether types that mean something.
+pub fn junk(length: usize, random: &mut Random) -> Vec<u8> {
+    let mut bytes = Vec::new();
+    noise(&mut bytes, length, random);
+    let ether = if length % 2 == 1 { ETHER_TAG } else { random.pick(&[ETHER_TAG, ETHER_IPV4, ETHER_IPV4, 0x0806]) };
+    if length >= 14 && random.chance(75) {
+        bytes[12..14].copy_from_slice(&ether.to_be_bytes());
+    }
+    bytes
+}

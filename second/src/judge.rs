@@ -1,0 +1,155 @@
+//! One frame judged: every check, then the five steps, on records changed in place.
+
+use crate::answer::{Answer, Refusal, Verdict, NO_RULE};
+use crate::event;
+use crate::layers::{self, Layers, ACK, FIN, RST, SYN};
+use crate::matching::{self, Decider};
+use crate::records::{Conversation, Quadruple, Records, CLOSING, HIGHEST_LEVEL, OPENING, RUNNING};
+use crate::table::{set, Action, Rule, Table};
+
+/// Refuses 4, 5, 1, 2, 3 in this order and then changes nothing; else judges.
+pub fn judge(
+    table: &Table,
+    records: &mut Records,
+    frame: &[u8],
+    reading: u64,
+    space: &mut [u8],
+) -> Result<Answer, Refusal> {
+    table.check()?;
+    records.check(table)?;
+    let layers = layers::read(frame)?;
+    if space.len() < event::SPACE {
+        return Err(Refusal::SmallSpace);
+    }
+    let elapsed = records.elapse(reading);
+    records.age(table, elapsed);
+    Ok(match matching::decider(table, records.state, &layers) {
+        Decider::Rule(place) => by_rule(table, records, place, frame, &layers, space),
+        Decider::Default(best) => by_default(table, records, best, frame, &layers, space),
+    })
+}
+
+fn by_rule(
+    table: &Table,
+    records: &mut Records,
+    place: usize,
+    frame: &[u8],
+    layers: &Layers,
+    space: &mut [u8],
+) -> Answer {
+    let rule = &table.rules[place];
+    // The level rises whatever follows, on a block rule too.
+    if rule.has(set::SIZE) {
+        records.levels[place] = records.levels[place].saturating_add(1_000).min(HIGHEST_LEVEL);
+    }
+    let verdict = verdict_of(rule, records, place, layers);
+    records.counts[place].raise(verdict.passes());
+    let number = match verdict {
+        Verdict::OverRate => event::RATELIMIT,
+        Verdict::WrongSegment => event::TCP_STATETRANSITION,
+        Verdict::NoFreePlace => event::TCP_MAXCONNECTIONS,
+        _ => return Answer { verdict, rule: rule.id, length: 0 },
+    };
+    let length = event::write(number, rule.id, frame, layers, space);
+    Answer { verdict, rule: rule.id, length }
+}
+
+/// Step 4 of a rule that decides.
+fn verdict_of(rule: &Rule, records: &mut Records, place: usize, layers: &Layers) -> Verdict {
+    if rule.action == Action::Block {
+        Verdict::Blocked
+    } else if rule.has(set::SIZE) && records.levels[place] > 1_000 * u32::from(rule.size) {
+        Verdict::OverRate
+    } else if rule.has(set::TRACKING) {
+        track(rule, records, place, layers)
+    } else {
+        Verdict::Passed
+    }
+}
+
+fn by_default(
+    table: &Table,
+    records: &mut Records,
+    best: Option<(usize, u8)>,
+    frame: &[u8],
+    layers: &Layers,
+    space: &mut [u8],
+) -> Answer {
+    if table.states[records.state as usize].default == Action::Allow {
+        records.default.raise(true);
+        return Answer { verdict: Verdict::PassedByDefault, rule: NO_RULE, length: 0 };
+    }
+    records.default.raise(false);
+    let (number, id) = match best {
+        Some((place, count)) => {
+            let rule = &table.rules[place];
+            (matching::mismatch_event(rule, count), rule.id)
+        }
+        None => (event::LINK_MISMATCH, NO_RULE),
+    };
+    let length = event::write(number, id, frame, layers, space);
+    Answer { verdict: Verdict::BlockedByDefault, rule: NO_RULE, length }
+}
+
+#[derive(Clone, Copy, PartialEq, Eq)]
+enum Segment {
+    Open,
+    Carry,
+    End,
+    Reset,
+    Wrong,
+}
+
+/// What a segment is to tracking, by the four flags it looks at.
+fn segment(flags: u8) -> Segment {
+    const SYN_ACK: u8 = SYN | ACK;
+    const RST_ACK: u8 = RST | ACK;
+    const FIN_ACK: u8 = FIN | ACK;
+    match flags & (FIN | SYN | RST | ACK) {
+        SYN | SYN_ACK => Segment::Open,
+        RST | RST_ACK => Segment::Reset,
+        FIN_ACK => Segment::End,
+        ACK => Segment::Carry,
+        _ => Segment::Wrong,
+    }
+}
+
+fn track(rule: &Rule, records: &mut Records, place: usize, layers: &Layers) -> Verdict {
+    // A rule with tracking is of kind TCP, so a frame it matches shows both layers.
+    let (Some(ip), Some(tcp)) = (&layers.ip, &layers.transport) else {
+        return Verdict::WrongSegment;
+    };
+    let quadruple = Quadruple { source: ip.source, destination: ip.destination, sport: tcp.sport, dport: tcp.dport };
+    match records.find(place, quadruple) {
+        None => begin(rule, records, place, quadruple, segment(tcp.flags)),
+        Some(slot) => proceed(records, place, slot, segment(tcp.flags)),
+    }
+}
+
+fn begin(rule: &Rule, records: &mut Records, place: usize, quadruple: Quadruple, segment: Segment) -> Verdict {
+    if segment != Segment::Open {
+        return Verdict::WrongSegment;
+    }
+    let Some(slot) = records.first_free(place, rule.places) else {
+        return Verdict::NoFreePlace;
+    };
+    records.held[place][slot] = OPENING;
+    records.conversations[place][slot] = Conversation { quadruple, age: 0 };
+    Verdict::Passed
+}
+
+fn proceed(records: &mut Records, place: usize, slot: usize, segment: Segment) -> Verdict {
+    let held = &mut records.held[place][slot];
+    match (*held, segment) {
+        (OPENING, Segment::Open) | (RUNNING | CLOSING, Segment::Carry) | (CLOSING, Segment::End) => {}
+        (OPENING, Segment::Carry) => *held = RUNNING,
+        (OPENING | RUNNING, Segment::End) => *held = CLOSING,
+        (_, Segment::Reset) => {
+            records.free(place, slot);
+            return Verdict::Passed;
+        }
+        _ => return Verdict::WrongSegment,
+    }
+    records.conversations[place][slot].age = 0;
+    Verdict::Passed
+}

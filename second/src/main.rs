@@ -1,0 +1,75 @@
+//! A second reading of document 01: it judges the same calls as the proved program, so that the two can be held together.
+
+mod answer;
+mod draft;
+mod event;
+mod faults;
+mod gen;
+mod image;
+mod judge;
+mod layers;
+mod matching;
+mod random;
+mod reach;
+#[cfg(test)]
+mod readings;
+mod recording;
+mod records;
+mod stream;
+mod table;
+mod table_t;
+#[cfg(test)]
+mod worked;
+mod world;
+
+use std::io::{self, BufReader, BufWriter};
+use std::process::ExitCode;
+
+const BUFFER: usize = 1 << 16;
+
+fn main() -> ExitCode {
+    let arguments: Vec<String> = std::env::args().skip(1).collect();
+    let words: Vec<&str> = arguments.iter().map(String::as_str).collect();
+    let done = match words[..] {
+        ["run"] => run(),
+        ["recording"] => recording(),
+        ["gen", seed, calls] => match (seed.parse(), calls.parse()) {
+            (Ok(seed), Ok(calls)) => gen(seed, calls),
+            _ => return usage(),
+        },
+        _ => return usage(),
+    };
+    match done {
+        Ok(code) => code,
+        Err(error) => {
+            eprintln!("second: {error}");
+            ExitCode::FAILURE
+        }
+    }
+}
+
+fn run() -> io::Result<ExitCode> {
+    let mut input = BufReader::with_capacity(BUFFER, io::stdin().lock());
+    let mut output = BufWriter::with_capacity(BUFFER, io::stdout().lock());
+    stream::run(&mut input, &mut output)?;
+    Ok(ExitCode::SUCCESS)
+}
+
+fn recording() -> io::Result<ExitCode> {
+    let mut input = BufReader::with_capacity(BUFFER, io::stdin().lock());
+    let mut output = BufWriter::with_capacity(BUFFER, io::stdout().lock());
+    recording::stream(&mut input, &mut output)?;
+    Ok(ExitCode::SUCCESS)
+}
+
+/// A long enough stream that misses something it should reach is a failure.
+fn gen(seed: u64, calls: u64) -> io::Result<ExitCode> {
+    let output = BufWriter::with_capacity(BUFFER, io::stdout().lock());
+    let complete = gen::generate(seed, calls, output)?;
+    Ok(if complete || calls < gen::ENOUGH { ExitCode::SUCCESS } else { ExitCode::FAILURE })
+}
+
+fn usage() -> ExitCode {
+    eprintln!("second run < stream > lines\nsecond recording < capture > stream\nsecond gen SEED N > stream");
+    ExitCode::from(2)
+}

@@ -1,0 +1,99 @@
+//! Which rule decides a frame, and which fits best where none does.
+
+use crate::layers::{Kind, Layers};
+use crate::table::{set, Rule, Table};
+
+/// How many layers match from link upward to the first that does not.
+pub const ALL_LAYERS: u8 = 4;
+
+pub enum Decider {
+    /// The first active matching rule, by its place.
+    Rule(usize),
+    /// No rule matches. The first active rule with the greatest count of matching layers, and that count.
+    Default(Option<(usize, u8)>),
+}
+
+#[inline]
+pub fn decider(table: &Table, state: u32, layers: &Layers) -> Decider {
+    let mut best: Option<(usize, u8)> = None;
+    let mut marks = table.states[state as usize].marks;
+    while marks != 0 {
+        let place = marks.trailing_zeros() as usize;
+        marks &= marks - 1;
+        let count = matching_layers(&table.rules[place], layers);
+        if count == ALL_LAYERS {
+            return Decider::Rule(place);
+        }
+        if best.map_or(true, |(_, greatest)| count > greatest) {
+            best = Some((place, count));
+        }
+    }
+    Decider::Default(best)
+}
+
+#[inline]
+fn matching_layers(rule: &Rule, layers: &Layers) -> u8 {
+    if rule.has(set::LINK) && !link_matches(rule, layers) {
+        0
+    } else if rule.has(set::IP) && !ip_matches(rule, layers) {
+        1
+    } else if rule.has(set::TRANSPORT) && !transport_matches(rule, layers) {
+        2
+    } else if rule.has(set::SOMEIP) && !someip_matches(rule, layers) {
+        3
+    } else {
+        ALL_LAYERS
+    }
+}
+
+#[inline]
+fn link_matches(rule: &Rule, layers: &Layers) -> bool {
+    let tag_agrees = match layers.tag {
+        None => !rule.has(set::TAG),
+        Some(tag) => {
+            (!rule.has(set::VLAN) || rule.vlan == tag.vlan)
+                && (!rule.has(set::PRIORITY) || rule.priority == tag.priority)
+        }
+    };
+    (!rule.has(set::ETHER) || rule.ether == layers.ether)
+        && (!rule.has(set::DEST_MAC) || rule.dst == layers.dst)
+        && (!rule.has(set::SOURCE_MAC) || rule.src == layers.src)
+        && tag_agrees
+}
+
+#[inline]
+fn ip_matches(rule: &Rule, layers: &Layers) -> bool {
+    let Some(ip) = &layers.ip else { return false };
+    (!rule.has(set::SOURCE) || rule.source.holds(ip.source))
+        && (!rule.has(set::DESTINATION) || rule.destination.holds(ip.destination))
+        && (!rule.has(set::PROTOCOL) || rule.protocol == ip.protocol)
+}
+
+#[inline]
+fn transport_matches(rule: &Rule, layers: &Layers) -> bool {
+    let Some(transport) = &layers.transport else { return false };
+    (!rule.has(set::KIND) || rule.kind == transport.kind)
+        && (!rule.has(set::SOURCE_PORTS) || rule.sports.holds(transport.sport))
+        && (!rule.has(set::DEST_PORTS) || rule.dports.holds(transport.dport))
+}
+
+#[inline]
+fn someip_matches(rule: &Rule, layers: &Layers) -> bool {
+    let Some(message) = &layers.someip else { return false };
+    (!rule.has(set::SERVICE) || rule.service == message.service)
+        && (!rule.has(set::METHOD) || rule.method == message.method)
+        && (!rule.has(set::VERSION) || rule.version == message.version)
+        && (!rule.has(set::MESSAGE) || rule.message == message.message)
+        && (!rule.has(set::CODE) || rule.code == message.code)
+}
+
+/// The event of a rule's first layer that does not match; a rule at fault there has a kind where ports are set.
+pub fn mismatch_event(rule: &Rule, count: u8) -> u16 {
+    match count {
+        0 => crate::event::LINK_MISMATCH,
+        1 => crate::event::IPV4_MISMATCH,
+        2 if rule.kind == Kind::Tcp => crate::event::TCP_MISMATCH,
+        2 => crate::event::UDP_MISMATCH,
+        _ => crate::event::SOMEIP_MISMATCH,
+    }
+}

@@ -1,0 +1,300 @@
+//! What a generated stream has reached, by name and how often.
+
+use std::collections::BTreeMap;
+
+use crate::answer::{Answer, Refusal, Verdict, NO_RULE};
+use crate::faults::{RECORD_FAULTS, TABLE_FAULTS};
+use crate::layers::{self, be16, be32, Kind, Layers, ACK, ETHER_IPV4, ETHER_TAG, FIN, RST, SYN};
+use crate::records::{Quadruple, Records, FREE, HIGHEST_LEVEL};
+use crate::table::{set, Table, PLACES, RULES};
+
+pub const HELD_NAMES: [&str; 4] = ["none", "opening", "running", "closing"];
+
+const NAMES: [&str; 65] = [
+    "event-51",
+    "event-54",
+    "event-55",
+    "event-56",
+    "event-61",
+    "event-63",
+    "event-64",
+    "event-77",
+    "call-check",
+    "call-fresh",
+    "call-switch",
+    "call-layers",
+    "call-print",
+    "switch-existing",
+    "switch-missing",
+    "table-zero-rules",
+    "state-none-active",
+    "default-allow-without-rule",
+    "bucket-on-block-rule",
+    "bucket-of-size-0",
+    "space-0",
+    "space-255",
+    "space-256",
+    "space-512",
+    "clock-back",
+    "clock-same",
+    "clock-far-ahead",
+    "clock-0",
+    "clock-highest",
+    "refill-beyond-64-bits",
+    "idle-end",
+    "idle-end-of-rule-not-active",
+    "level-at-highest",
+    "count-near-stop",
+    "count-stopped",
+    "frame-0-bytes",
+    "frame-1-to-13-bytes",
+    "frame-14-bytes",
+    "frame-tagged-under-18-bytes",
+    "frame-1518-bytes",
+    "frame-1519-bytes",
+    "frame-2048-bytes",
+    "link-untagged",
+    "link-tagged",
+    "link-double-tagged",
+    "link-vlan-4095",
+    "ip-short",
+    "ip-version",
+    "ip-few-words",
+    "ip-total-below-header",
+    "ip-total-beyond-rest",
+    "ip-checksum",
+    "ip-options",
+    "ip-padding",
+    "fragment-more",
+    "fragment-offset",
+    "protocol-other",
+    "tcp-short",
+    "tcp-offset-low",
+    "tcp-offset-beyond",
+    "tcp-options",
+    "udp-short",
+    "udp-length",
+    "someip-short",
+    "someip-length-low",
+];
+const LAST_NAMES: [&str; 2] = ["someip-length-high", "someip"];
+
+pub struct Reach(BTreeMap<String, u64>);
+
+/// One judged call and what came of it.
+pub struct Call<'a> {
+    pub table: &'a Table,
+    pub before: &'a Records,
+    pub after: &'a Records,
+    pub reading: u64,
+    pub frame: &'a [u8],
+    pub space: &'a [u8],
+    pub judged: Result<Answer, Refusal>,
+}
+
+/// The name of a set of flags on a tracked rule, by how its conversation is held.
+pub fn flags_name(held: u8, flags: u8) -> String {
+    let letters = [(FIN, 'F'), (SYN, 'S'), (RST, 'R'), (ACK, 'A')];
+    let shown = letters.map(|(flag, letter)| if flags & flag != 0 { letter } else { '.' });
+    format!("flags-{}-{}", HELD_NAMES[usize::from(held)], String::from_iter(shown))
+}
+
+/// The sixteen sets of the four flags that tracking looks at.
+pub fn flag_sets() -> impl Iterator<Item = u8> {
+    (0..16).map(|set: u8| set & 7 | (set & 8) << 1)
+}
+
+impl Reach {
+    pub fn new() -> Reach {
+        let mut names: Vec<String> = NAMES.iter().chain(&LAST_NAMES).map(|name| name.to_string()).collect();
+        names.extend((0..7).map(|verdict| format!("verdict-{verdict}")));
+        names.extend((1..7).map(|refusal| format!("refusal-{refusal}")));
+        names.extend(TABLE_FAULTS.map(|fault| format!("table-fault-{fault}")));
+        names.extend(RECORD_FAULTS.map(|fault| format!("record-fault-{fault}")));
+        names.extend((0..4).flat_map(|held| flag_sets().map(move |flags| flags_name(held, flags))));
+        Reach(names.into_iter().map(|name| (name, 0)).collect())
+    }
+
+    pub fn hit(&mut self, name: &str) {
+        *self.0.get_mut(name).unwrap_or_else(|| panic!("no such name: {name}")) += 1;
+    }
+
+    pub fn count(&self, name: &str) -> u64 {
+        self.0[name]
+    }
+
+    pub fn refused(&mut self, refusal: Refusal) {
+        self.hit(&format!("refusal-{}", refusal.number()));
+    }
+
+    /// Says every name and count; gives how many were not reached.
+    pub fn report(&self) -> usize {
+        for (name, count) in &self.0 {
+            eprintln!("{name} {count}");
+        }
+        self.0.values().filter(|count| **count == 0).count()
+    }
+
+    fn hit_if(&mut self, name: &str, reached: bool) {
+        if reached {
+            self.hit(name);
+        }
+    }
+
+    pub fn judged(&mut self, call: &Call) {
+        self.frame_length(call.frame);
+        if [0, 255, 256, 512].contains(&call.space.len()) {
+            self.hit(&format!("space-{}", call.space.len()));
+        }
+        let answer = match call.judged {
+            Ok(answer) => answer,
+            Err(refusal) => return self.refused(refusal),
+        };
+        self.hit(&format!("verdict-{}", answer.verdict.number()));
+        if answer.length > 0 {
+            self.hit(&format!("event-{}", be16(call.space, 0)));
+        }
+        let layers = layers::read(call.frame).expect("a judged frame has layers");
+        self.layers(call.frame, &layers);
+        self.table(call, answer);
+        self.clock(call);
+        self.records(call, answer, &layers);
+    }
+
+    fn frame_length(&mut self, frame: &[u8]) {
+        let tagged = frame.len() >= 14 && be16(frame, 12) == ETHER_TAG;
+        match frame.len() {
+            0 => self.hit("frame-0-bytes"),
+            1..=13 => self.hit("frame-1-to-13-bytes"),
+            14..=17 if tagged => self.hit("frame-tagged-under-18-bytes"),
+            14 => self.hit("frame-14-bytes"),
+            1_518 => self.hit("frame-1518-bytes"),
+            1_519 => self.hit("frame-1519-bytes"),
+            2_048 => self.hit("frame-2048-bytes"),
+            _ => {}
+        }
+    }
+
+    fn table(&mut self, call: &Call, answer: Answer) {
+        let rules = call.table.rules();
+        let decider = rules.iter().find(|rule| rule.id == answer.rule);
+        self.hit_if("table-zero-rules", rules.is_empty());
+        self.hit_if("state-none-active", call.table.states[call.before.state as usize].marks == 0);
+        let by_default = answer.verdict == Verdict::PassedByDefault && answer.rule == NO_RULE;
+        self.hit_if("default-allow-without-rule", by_default);
+        if let Some(rule) = decider.filter(|rule| rule.has(set::RATE)) {
+            self.hit_if("bucket-on-block-rule", answer.verdict == Verdict::Blocked);
+            self.hit_if("bucket-of-size-0", rule.size == 0);
+        }
+    }
+
+    fn clock(&mut self, call: &Call) {
+        let (last, reading) = (call.before.last, call.reading);
+        let elapsed = reading.saturating_sub(last);
+        self.hit_if("clock-back", reading < last);
+        self.hit_if("clock-same", reading == last);
+        self.hit_if("clock-far-ahead", elapsed > 1 << 40);
+        self.hit_if("clock-0", reading == 0);
+        self.hit_if("clock-highest", reading == u64::MAX);
+        let overflows = |place: usize| {
+            call.table.rules[place].refill != 0
+                && call.before.levels[place] != 0
+                && u64::from(call.table.rules[place].refill).checked_mul(elapsed).is_none()
+        };
+        self.hit_if("refill-beyond-64-bits", (0..call.table.rules().len()).any(overflows));
+    }
+
+    fn records(&mut self, call: &Call, answer: Answer, layers: &Layers) {
+        let mut aged = call.before.clone();
+        let elapsed = aged.elapse(call.reading);
+        aged.age(call.table, elapsed);
+        let ended = |place: usize| (0..PLACES).any(|slot| aged.held[place][slot] != call.before.held[place][slot]);
+        let marks = call.table.states[call.before.state as usize].marks;
+        self.hit_if("idle-end", (0..RULES).any(ended));
+        self.hit_if("idle-end-of-rule-not-active", (0..RULES).any(|place| ended(place) && marks >> place & 1 == 0));
+        self.hit_if("level-at-highest", call.after.levels.contains(&HIGHEST_LEVEL));
+        let changed = call.after.counts != call.before.counts || call.after.default != call.before.default;
+        let near = call.after.counts.iter().any(|count| count.passed.max(count.blocked) > u32::MAX - 4);
+        self.hit_if("count-near-stop", changed && near);
+        self.hit_if("count-stopped", !changed);
+        self.tracking(call.table, &aged, answer, layers);
+    }
+
+    /// The flags, and how the conversation was held when tracking looked at them.
+    fn tracking(&mut self, table: &Table, aged: &Records, answer: Answer, layers: &Layers) {
+        let Some(place) = table.rules().iter().position(|rule| rule.id == answer.rule) else { return };
+        if !table.rules[place].has(set::TRACKING) || answer.verdict == Verdict::OverRate {
+            return;
+        }
+        let (Some(ip), Some(tcp)) = (layers.ip, layers.transport) else { return };
+        let quadruple =
+            Quadruple { source: ip.source, destination: ip.destination, sport: tcp.sport, dport: tcp.dport };
+        let held = aged.find(place, quadruple).map_or(FREE, |slot| aged.held[place][slot]);
+        self.hit(&flags_name(held, tcp.flags & (FIN | SYN | RST | ACK)));
+    }
+
+    fn layers(&mut self, frame: &[u8], layers: &Layers) {
+        match layers.tag {
+            None => self.hit("link-untagged"),
+            Some(tag) => {
+                self.hit("link-tagged");
+                self.hit_if("link-double-tagged", layers.ether == ETHER_TAG);
+                self.hit_if("link-vlan-4095", tag.vlan == 4_095);
+            }
+        }
+        if layers.ether != ETHER_IPV4 {
+            return;
+        }
+        let packet = &frame[layers.rest..];
+        if layers.ip.is_none() {
+            return self.hit(why_no_ip(packet));
+        }
+        let (header, total) = (4 * usize::from(packet[0] & 15), usize::from(be16(packet, 2)));
+        self.hit_if("ip-options", header > 20);
+        self.hit_if("ip-padding", total < packet.len());
+        let fragment = be16(packet, 6);
+        self.hit_if("fragment-more", fragment & 0x2000 != 0);
+        self.hit_if("fragment-offset", fragment & 0x1fff != 0);
+        if fragment & 0x3fff == 0 {
+            self.transport(packet[9], &packet[header..total], layers);
+        }
+    }
+
+    fn transport(&mut self, protocol: u8, payload: &[u8], layers: &Layers) {
+        match protocol {
+            6 if payload.len() < 20 => self.hit("tcp-short"),
+            6 => match layers.transport {
+                None if payload[12] >> 4 < 5 => self.hit("tcp-offset-low"),
+                None => self.hit("tcp-offset-beyond"),
+                Some(tcp) => self.hit_if("tcp-options", tcp.header > 20),
+            },
+            17 if payload.len() < 8 => self.hit("udp-short"),
+            17 if layers.transport.is_none() => self.hit("udp-length"),
+            17 if layers.someip.is_some() => self.hit("someip"),
+            17 if payload.len() < 24 => self.hit("someip-short"),
+            17 if be32(payload, 12) < 8 => self.hit("someip-length-low"),
+            17 => self.hit("someip-length-high"),
+            _ => self.hit("protocol-other"),
+        }
+        debug_assert!(layers.someip.is_none() || layers.transport.is_some_and(|udp| udp.kind == Kind::Udp));
+    }
+}
+
+/// The first test of IPv4 that a packet under ether type 0x0800 fails.
+fn why_no_ip(packet: &[u8]) -> &'static str {
+    if packet.len() < 20 {
+        return "ip-short";
+    }
+    let (words, total) = (usize::from(packet[0] & 15), usize::from(be16(packet, 2)));
+    if packet[0] >> 4 != 4 {
+        "ip-version"
+    } else if words < 5 {
+        "ip-few-words"
+    } else if 4 * words > total {
+        "ip-total-below-header"
+    } else if total > packet.len() {
+        "ip-total-beyond-rest"
+    } else {
+        "ip-checksum"
+    }
+}

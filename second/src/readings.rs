@@ -1,0 +1,65 @@
+//! Tests of the case stream and of readings that the worked set leaves open.
+
+use crate::faults::{spoil_table, TABLE_FAULTS};
+use crate::gen::generate;
+use crate::random::Random;
+use crate::stream::run;
+use crate::table::Prefix;
+use crate::world::draw_table;
+
+fn lines(stream: &[u8]) -> String {
+    let mut output = Vec::new();
+    run(&mut &stream[..], &mut output).expect("a run in memory");
+    String::from_utf8(output).expect("plain text")
+}
+
+#[test]
+fn a_stream_that_ends_or_breaks() {
+    assert_eq!(lines(b""), "");
+    assert_eq!(lines(b"CZC"), "X 4 64\n?\n");
+    assert_eq!(lines(b"T too short"), "?\n");
+    assert_eq!(lines(b"L\x08\x01"), "?\n");
+    assert_eq!(lines(b"J\0\0\0\0\0\0\0\0\x02\x01\0\0"), "?\n");
+    assert_eq!(lines(b"V"), "?\n");
+}
+
+#[test]
+fn the_first_table_is_bad_and_the_first_records_empty() {
+    assert_eq!(lines(b"F\0\0\0\0\0\0\0\x05V\0P"), "X 4 64\nX 4 64\nP 0 0 0 0\n.\n");
+    // The bad table comes before the short frame and the missing space.
+    assert_eq!(lines(b"J\0\0\0\0\0\0\0\0\0\0\0\0"), "X 4 64\n");
+}
+
+#[test]
+fn layers_alone() {
+    assert_eq!(lines(b"L\0\x03abc"), "X 1 0\n");
+    let tagged = b"L\0\x12\x01\x02\x03\x04\x05\x06\x07\x08\x09\x0a\x0b\x0c\x81\x00\xaf\xff\x81\x00";
+    assert_eq!(lines(tagged), "L 010203040506 0708090a0b0c 5,4095 33024 - - -\n");
+}
+
+#[test]
+fn a_prefix_compares_its_leading_bits() {
+    let holds = |length, address| Prefix { address: 0x0a00_00ff, length }.holds(address);
+    assert!(holds(0, 0xffff_ffff) && holds(8, 0x0aff_ffff) && holds(32, 0x0a00_00ff));
+    assert!(!holds(1, 0x8a00_00ff) && !holds(8, 0x0b00_00ff) && !holds(32, 0x0a00_00fe));
+}
+
+#[test]
+fn each_table_fault_is_refused_at_its_place() {
+    let mut random = Random::new(3);
+    for fault in TABLE_FAULTS.iter().cycle().take(500) {
+        let mut table = draw_table(random.below(8), &mut random);
+        assert!(table.check().is_ok());
+        let place = spoil_table(&mut table, fault, &mut random);
+        assert_eq!(table.check().map_err(|refusal| refusal.place()), Err(place), "{fault}");
+    }
+}
+
+#[test]
+fn a_generated_stream_is_whole() {
+    let mut stream = Vec::new();
+    assert!(generate(1, 1_000, &mut stream).expect("written"), "something was not reached");
+    let lines = lines(&stream);
+    assert!(!lines.contains('?') && !lines.contains("dirty"));
+    assert!(lines.ends_with(".\n"));
+}

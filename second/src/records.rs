@@ -1,0 +1,228 @@
+//! The records: what makes them bad, fresh records, the switch of vehicle state, and step 2.
+
+use crate::answer::Refusal;
+use crate::table::{set, Rule, Table, PLACES, RULES};
+
+pub const HIGHEST_LEVEL: u32 = 4_294_967_000;
+
+/// How a place is held.
+pub const FREE: u8 = 0;
+pub const OPENING: u8 = 1;
+pub const RUNNING: u8 = 2;
+pub const CLOSING: u8 = 3;
+
+#[derive(Clone, Copy, PartialEq, Eq, Debug, Default)]
+pub struct Quadruple {
+    pub source: u32,
+    pub destination: u32,
+    pub sport: u16,
+    pub dport: u16,
+}
+
+impl Quadruple {
+    /// A short mark: equal quadruples have the same, different ones hardly ever.
+    #[inline]
+    fn mark(self) -> u32 {
+        let ports = u32::from(self.sport) << 16 | u32::from(self.dport);
+        (self.source.rotate_left(16) ^ ports).wrapping_mul(0x9e37_79b9) ^ self.destination
+    }
+}
+
+#[derive(Clone, Copy, PartialEq, Eq, Debug, Default)]
+pub struct Conversation {
+    pub quadruple: Quadruple,
+    pub age: u32,
+}
+
+#[derive(Clone, Copy, PartialEq, Eq, Debug, Default)]
+pub struct Counts {
+    pub passed: u32,
+    pub blocked: u32,
+}
+
+impl Counts {
+    /// Step 5; a count stops at the highest number it can hold.
+    #[inline]
+    pub fn raise(&mut self, passes: bool) {
+        let count = if passes { &mut self.passed } else { &mut self.blocked };
+        *count = count.saturating_add(1);
+    }
+}
+
+/// How the places are held stands apart from the conversations, so that eight free places show in one look.
+#[derive(Clone, PartialEq, Eq, Debug)]
+pub struct Records {
+    pub last: u64,
+    pub state: u32,
+    pub default: Counts,
+    pub levels: [u32; RULES],
+    pub counts: [Counts; RULES],
+    pub held: [[u8; PLACES]; RULES],
+    pub conversations: [[Conversation; PLACES]; RULES],
+}
+
+impl Records {
+    pub fn empty(last: u64) -> Records {
+        Records {
+            last,
+            state: 0,
+            default: Counts::default(),
+            levels: [0; RULES],
+            counts: [Counts::default(); RULES],
+            held: [[FREE; PLACES]; RULES],
+            conversations: [[Conversation::default(); PLACES]; RULES],
+        }
+    }
+
+    /// Refuses 5. The table is good.
+    #[inline]
+    pub fn check(&self, table: &Table) -> Result<(), Refusal> {
+        let rules = table.rules();
+        let good = self.state < u32::from(table.state_count)
+            && rules.iter().enumerate().all(|(place, rule)| self.good_under(place, rule))
+            && self.empty_from(rules.len());
+        if good {
+            Ok(())
+        } else {
+            Err(Refusal::BadRecord)
+        }
+    }
+
+    /// Where no rule stands there is no level and no conversation. All is looked at at once, which is faster than to stop early.
+    #[inline]
+    fn empty_from(&self, count: usize) -> bool {
+        let levels = self.levels[count..].iter().fold(0, |any, level| any | level);
+        let held = self.held[count..].iter().fold(0, |any, held| any | u64::from_ne_bytes(*held));
+        levels == 0 && held == 0
+    }
+
+    #[inline]
+    fn good_under(&self, place: usize, rule: &Rule) -> bool {
+        let level = self.levels[place];
+        if level > HIGHEST_LEVEL || (level != 0 && !rule.has(set::SIZE)) {
+            return false;
+        }
+        self.held[place] == [FREE; PLACES] || self.good_conversations(place, rule)
+    }
+
+    /// Tracking, places, ages and no quadruple twice, over the places that are held.
+    #[inline]
+    fn good_conversations(&self, place: usize, rule: &Rule) -> bool {
+        if !rule.has(set::TRACKING) {
+            return false;
+        }
+        let mut marks = [0; PLACES];
+        let mut bad = false;
+        for slot in 0..PLACES {
+            let conversation = &self.conversations[place][slot];
+            let held = self.held[place][slot] != FREE;
+            bad |= held & ((slot >= usize::from(rule.places)) | (conversation.age >= rule.idle));
+            marks[slot] = if held { conversation.quadruple.mark() } else { slot as u32 };
+        }
+        !bad && !(any_alike(&marks) && self.repeats(place))
+    }
+
+    /// The exact look, needed only where two marks are alike.
+    fn repeats(&self, place: usize) -> bool {
+        let again = |slot: usize| self.find_before(place, slot, self.conversations[place][slot].quadruple).is_some();
+        (1..PLACES).any(|slot| self.held[place][slot] != FREE && again(slot))
+    }
+
+    fn find_before(&self, place: usize, end: usize, quadruple: Quadruple) -> Option<usize> {
+        let (held, conversations) = (&self.held[place], &self.conversations[place]);
+        (0..end).find(|&slot| held[slot] != FREE && conversations[slot].quadruple == quadruple)
+    }
+
+    /// The slot in which a rule holds this quadruple.
+    #[inline]
+    pub fn find(&self, place: usize, quadruple: Quadruple) -> Option<usize> {
+        self.find_before(place, PLACES, quadruple)
+    }
+
+    /// The first free slot among the places the rule has.
+    #[inline]
+    pub fn first_free(&self, place: usize, places: u8) -> Option<usize> {
+        self.held[place][..usize::from(places)].iter().position(|held| *held == FREE)
+    }
+
+    /// A freed place is as in a fresh record.
+    #[inline]
+    pub fn free(&mut self, place: usize, slot: usize) {
+        self.held[place][slot] = FREE;
+        self.conversations[place][slot] = Conversation::default();
+    }
+
+    /// Step 1: the time since the last judged frame, 0 if the clock went back.
+    #[inline]
+    pub fn elapse(&mut self, reading: u64) -> u64 {
+        let elapsed = reading.saturating_sub(self.last);
+        self.last = reading;
+        elapsed
+    }
+
+    /// Step 2, over all rules, active or not.
+    #[inline]
+    pub fn age(&mut self, table: &Table, elapsed: u64) {
+        if elapsed == 0 {
+            return;
+        }
+        for (place, rule) in table.rules().iter().enumerate() {
+            if self.levels[place] != 0 {
+                // Beyond 32 bits every level has run out, so the product may stop there.
+                let fall = u64::from(rule.refill).saturating_mul(elapsed).min(u64::from(u32::MAX));
+                self.levels[place] = self.levels[place].saturating_sub(fall as u32);
+            }
+            if self.held[place] != [FREE; PLACES] {
+                self.age_conversations(place, rule.idle, elapsed);
+            }
+        }
+    }
+
+    fn age_conversations(&mut self, place: usize, idle: u32, elapsed: u64) {
+        for slot in 0..PLACES {
+            if self.held[place][slot] == FREE {
+                continue;
+            }
+            let age = u64::from(self.conversations[place][slot].age).saturating_add(elapsed);
+            if age >= u64::from(idle) {
+                self.free(place, slot);
+            } else {
+                self.conversations[place][slot].age = age as u32;
+            }
+        }
+    }
+}
+
+/// Every two of the eight stand at most four apart, going round.
+#[inline]
+fn any_alike(marks: &[u32; PLACES]) -> bool {
+    let mut alike = false;
+    for apart in 1..=PLACES / 2 {
+        for slot in 0..PLACES {
+            alike |= marks[slot] == marks[(slot + apart) % PLACES];
+        }
+    }
+    alike
+}
+
+/// Table and records; refuses 4, then 5.
+pub fn check(table: &Table, records: &Records) -> Result<(), Refusal> {
+    table.check()?;
+    records.check(table)
+}
+
+/// Fresh records of a table; refuses 4.
+pub fn fresh(table: &Table, start: u64) -> Result<Records, Refusal> {
+    table.check()?;
+    Ok(Records::empty(start))
+}
+
+/// The switch changes the active state alone; refuses 4, 5, 6.
+pub fn switch(table: &Table, records: &mut Records, state: u8) -> Result<(), Refusal> {
+    check(table, records)?;
+    if state >= table.state_count {
+        return Err(Refusal::NoSuchState);
+    }
+    records.state = u32::from(state);
+    Ok(())
+}

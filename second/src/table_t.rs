@@ -1,0 +1,41 @@
+//! Table T of 01's worked set.
+
+use crate::image::{read_table, TABLE_IMAGE};
+use crate::layers::Kind;
+use crate::table::{set, Action, Prefix, Range, Rule, State, Table};
+
+fn rule(id: u16, action: Action, settings: u32) -> Rule {
+    Rule { id, action, set: settings, ..read_table(&[0; TABLE_IMAGE]).rules[0] }
+}
+
+/// Table T: default block, all four active.
+pub fn table_t() -> Table {
+    let mut table = read_table(&[0; TABLE_IMAGE]);
+    let someip = set::ETHER | set::SOURCE | set::KIND | set::DEST_PORTS | set::SERVICE | set::MESSAGE;
+    table.rules[0] = Rule {
+        ether: 0x0800,
+        source: Prefix { address: 0x0a00_0000, length: 8 },
+        kind: Kind::Udp,
+        dports: Range { low: 30_501, high: 30_501 },
+        service: 0x1000,
+        message: 0x80,
+        ..rule(10, Action::Allow, someip)
+    };
+    table.rules[1] = Rule {
+        kind: Kind::Tcp,
+        sports: Range { low: 443, high: 443 },
+        places: 2,
+        idle: 1_000,
+        ..rule(20, Action::Allow, set::KIND | set::SOURCE_PORTS | set::TRACKING)
+    };
+    table.rules[2] = Rule { ether: 0x0806, size: 2, refill: 1, ..rule(30, Action::Allow, set::ETHER | set::RATE) };
+    table.rules[3] = Rule {
+        kind: Kind::Udp,
+        dports: Range { low: 0, high: 1_023 },
+        ..rule(40, Action::Block, set::KIND | set::DEST_PORTS)
+    };
+    table.rule_count = 4;
+    table.state_count = 1;
+    table.states[0] = State { default: Action::Block, marks: 0b1111 };
+    table
+}
