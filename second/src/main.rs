@@ -9,6 +9,7 @@ mod image;
 mod judge;
 mod layers;
 mod matching;
+mod pace;
 mod random;
 mod reach;
 #[cfg(test)]
@@ -35,6 +36,10 @@ fn main() -> ExitCode {
         ["recording"] => recording(),
         ["gen", seed, calls] => match (seed.parse(), calls.parse()) {
             (Ok(seed), Ok(calls)) => gen(seed, calls),
+            _ => return usage(),
+        },
+        ["pace", ref scene @ .., times, step] => match (pace::scene(scene), times.parse(), step.parse()) {
+            (Some(scene), Ok(times), Ok(step)) => pace(&scene, times, step),
             _ => return usage(),
         },
         _ => return usage(),
@@ -69,7 +74,14 @@ fn gen(seed: u64, calls: u64) -> io::Result<ExitCode> {
     Ok(if complete || calls < gen::ENOUGH { ExitCode::SUCCESS } else { ExitCode::FAILURE })
 }
 
+fn pace(scene: &pace::Scene, times: u32, step: u32) -> io::Result<ExitCode> {
+    let mut output = BufWriter::with_capacity(BUFFER, io::stdout().lock());
+    scene.write(times, step, &mut output)?;
+    Ok(ExitCode::SUCCESS)
+}
+
 fn usage() -> ExitCode {
     eprintln!("second run < stream > lines\nsecond recording < capture > stream\nsecond gen SEED N > stream");
+    eprintln!("second pace SCENE TIMES STEP > stream, SCENE one of worked, last, none, held, grow RULES HELD LENGTH");
     ExitCode::from(2)
 }

@@ -23,6 +23,13 @@ struct Run {
     space: [u8; LARGEST_SPACE],
 }
 
+/// What the calls `J` and `B` carry beside the frame.
+struct Judging {
+    reading: u64,
+    size: usize,
+    length: usize,
+}
+
 /// Why a run ends before its input does.
 enum Stop {
     BadStream,
@@ -96,6 +103,7 @@ impl Run {
                 print_done(output, "V", records::switch(&self.table, &mut self.records, state))?;
             }
             b'J' => self.judge(input, output)?,
+            b'B' => self.pace(input, output)?,
             b'L' => {
                 let length = usize::from(u16::from_be_bytes(take(input)?));
                 print_layers(output, layers::read(self.take_frame(input, length)?))?;
@@ -114,7 +122,7 @@ impl Run {
         Ok(&self.frame[..length])
     }
 
-    fn judge(&mut self, input: &mut impl Read, output: &mut impl Write) -> Result<(), Stop> {
+    fn take_judging(&mut self, input: &mut impl Read) -> Result<Judging, Stop> {
         let head: [u8; 12] = take(input)?;
         let (reading, size) = (image::be64(&head, 0), usize::from(be16(&head, 8)));
         let length = usize::from(be16(&head, 10));
@@ -122,10 +130,37 @@ impl Run {
             return Err(Stop::BadStream);
         }
         self.take_frame(input, length)?;
-        let space = &mut self.space[..size];
+        Ok(Judging { reading, size, length })
+    }
+
+    /// Not inlined, so that each call of a long row is made in full.
+    #[inline(never)]
+    fn judge_once(&mut self, call: &Judging) -> Result<Answer, Refusal> {
+        let space = &mut self.space[..call.size];
         space.fill(UNTOUCHED);
-        let judged = judge(&self.table, &mut self.records, &self.frame[..length], reading, space);
-        Ok(print_judged(output, judged, space)?)
+        judge(&self.table, &mut self.records, &self.frame[..call.length], call.reading, space)
+    }
+
+    fn judge(&mut self, input: &mut impl Read, output: &mut impl Write) -> Result<(), Stop> {
+        let call = self.take_judging(input)?;
+        let judged = self.judge_once(&call);
+        Ok(print_judged(output, judged, &self.space[..call.size])?)
+    }
+
+    /// One frame many times at readings that rise by a step; a reading that would pass the highest stays.
+    fn pace(&mut self, input: &mut impl Read, output: &mut impl Write) -> Result<(), Stop> {
+        let times = u32::from_be_bytes(take(input)?);
+        let step = u64::from(u32::from_be_bytes(take(input)?));
+        if times == 0 {
+            return Err(Stop::BadStream);
+        }
+        let mut call = self.take_judging(input)?;
+        let mut judged = self.judge_once(&call);
+        for _ in 1..times {
+            call.reading = call.reading.checked_add(step).unwrap_or(call.reading);
+            judged = self.judge_once(&call);
+        }
+        Ok(print_judged(output, judged, &self.space[..call.size])?)
     }
 }
 
@@ -215,4 +250,58 @@ fn print_conversations(output: &mut impl Write, records: &Records, place: usize)
         writeln!(output, "{} {} {held} {age}", of.sport, of.dport)?;
     }
     Ok(())
+}
+
+#[cfg(test)]
+mod tests {
+    use super::run;
+    use crate::image::write_table;
+    use crate::random::Random;
+    use crate::table_t::{arp, table_t};
+
+    fn lines(calls: &[u8]) -> String {
+        let mut stream = b"T".to_vec();
+        stream.extend(write_table(&table_t(), &mut Random::new(0)));
+        stream.extend(calls);
+        let mut printed = Vec::new();
+        run(&mut stream.as_slice(), &mut printed).expect("printed");
+        String::from_utf8(printed).expect("text")
+    }
+
+    fn judged(reading: u64) -> Vec<u8> {
+        let frame = arp();
+        let mut call = reading.to_be_bytes().to_vec();
+        call.extend([256u16.to_be_bytes(), (frame.len() as u16).to_be_bytes()].concat());
+        call.extend(frame);
+        call
+    }
+
+    fn one_by_one(readings: &[u64]) -> String {
+        let calls: Vec<u8> = readings.iter().flat_map(|reading| [b"J".to_vec(), judged(*reading)].concat()).collect();
+        lines(&[calls, b"P".to_vec()].concat())
+    }
+
+    fn in_one(times: u32, step: u32, reading: u64) -> String {
+        let head = [b"B".to_vec(), times.to_be_bytes().to_vec(), step.to_be_bytes().to_vec()].concat();
+        lines(&[head, judged(reading), b"P".to_vec()].concat())
+    }
+
+    #[test]
+    fn many_calls_in_one_print_the_last_and_leave_the_same_records() {
+        let each = one_by_one(&[100, 107, 114]);
+        let (_, from_last) = each.match_indices("J ").nth(2).map(|(at, _)| each.split_at(at)).expect("three lines");
+        assert_eq!(in_one(3, 7, 100), from_last);
+        assert_eq!(in_one(1, 7, 100), one_by_one(&[100]));
+    }
+
+    #[test]
+    fn a_reading_that_would_pass_the_highest_stays() {
+        let each = one_by_one(&[u64::MAX - 5, u64::MAX - 1, u64::MAX - 1]);
+        assert!(each.ends_with(&in_one(3, 4, u64::MAX - 5)));
+    }
+
+    #[test]
+    fn no_times_is_no_call() {
+        assert_eq!(in_one(0, 1, 0), "?\n");
+    }
 }

@@ -1,4 +1,4 @@
-//! Table T of 01's worked set.
+//! Table T of 01's worked set, and two of its frames.
 
 use crate::image::{read_table, TABLE_IMAGE};
 use crate::layers::Kind;
@@ -38,4 +38,20 @@ pub fn table_t() -> Table {
     table.state_count = 1;
     table.states[0] = State { default: Action::Block, marks: 0b1111 };
     table
+}
+
+const FRAME_A: &str = "021bbbbbbbbb021aaaaaaaaa08004500003a00010000401166b00a0000010a010001\
+771b77250026e8b91000011100000016000100030101800034333937413038423735303034 36";
+
+pub fn frame_a() -> Vec<u8> {
+    let digits: Vec<u32> = FRAME_A.chars().filter_map(|c| c.to_digit(16)).collect();
+    digits.chunks_exact(2).map(|pair| (pair[0] * 16 + pair[1]) as u8).collect()
+}
+
+/// A frame of ether type 0x0806.
+pub fn arp() -> Vec<u8> {
+    let mut frame = vec![0xff; 6];
+    frame.extend([2, 0, 0, 0, 0, 7, 8, 6]);
+    frame.extend([0; 28]);
+    frame
 }

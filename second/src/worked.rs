@@ -2,18 +2,10 @@
 
 use crate::answer::{Refusal, Verdict, NO_RULE};
 use crate::judge::judge;
-use crate::layers::{self, Kind, ACK, SYN};
+use crate::layers::{self, ACK, SYN};
 use crate::records::{fresh, Quadruple, Records, FREE, OPENING, RUNNING};
 use crate::table::Table;
-use crate::table_t::table_t;
-
-const FRAME_A: &str = "021bbbbbbbbb021aaaaaaaaa08004500003a00010000401166b00a0000010a010001\
-771b77250026e8b91000011100000016000100030101800034333937413038423735303034 36";
-
-fn frame_a() -> Vec<u8> {
-    let digits: Vec<u32> = FRAME_A.chars().filter_map(|c| c.to_digit(16)).collect();
-    digits.chunks_exact(2).map(|pair| (pair[0] * 16 + pair[1]) as u8).collect()
-}
+use crate::table_t::{arp, frame_a, table_t};
 
 /// A table, its records and an event space, judged frame by frame.
 struct Bench {
@@ -60,13 +52,6 @@ fn tcp(dport: u16, flags: u8) -> Vec<u8> {
     let check = !((folded & 0xffff) + (folded >> 16)) as u16;
     frame[24..26].copy_from_slice(&check.to_be_bytes());
     assert!(layers::read(&frame).unwrap().transport.is_some());
-    frame
-}
-
-fn arp() -> Vec<u8> {
-    let mut frame = vec![0xff; 6];
-    frame.extend([2, 0, 0, 0, 0, 7, 8, 6]);
-    frame.extend([0; 28]);
     frame
 }
 

@@ -1,13 +1,23 @@
 // Each call: its bytes are taken from the input, the call is made, and its answer is printed. False where they are no call.
 ghost use Prim.Native.Nat.{_≤_};
-use crate::image::{read64, records_of, Image, RECORDS, TABLE};
+use crate::image::Image;
+use crate::image::RECORDS;
+use crate::image::TABLE;
+use crate::image::read64;
+use crate::image::records_of;
 use crate::input::take;
 use crate::print;
-use numbers::{count16, count8, read16};
-use records::{Counts, Head, Places};
+use numbers::count8;
+use numbers::count16;
+use numbers::read16;
+use numbers::read32;
+use numbers::wide64;
+use records::Counts;
+use records::Head;
+use records::Places;
 use table::Table;
 
-pub fn call(
+pub(crate) fn call(
     letter: u8,
     t: Table,
     buf: &mut [u8; 65536],
@@ -25,7 +35,8 @@ pub fn call(
         b'C' => check(t, head, counts, places, out, used),
         b'F' => fresh(t, buf, span, image, head, counts, places, out, used),
         b'V' => switch(t, buf, span, image, head, counts, places, out, used),
-        b'J' => judge(t, buf, span, image, head, counts, places, out, used),
+        b'J' => judge(t, 1, 0, buf, span, image, head, counts, places, out, used),
+        b'B' => pace(t, buf, span, image, head, counts, places, out, used),
         b'L' => layers_of(buf, span, image, out, used),
         b'P' => print::all_records(head, counts, places, out, used),
         _ => false,
@@ -47,7 +58,14 @@ fn load(
     true
 }
 
-fn check(t: Table, head: &Head, counts: &Counts, places: &Places, out: &mut [u8; 65536], used: &mut usize) -> bool {
+fn check(
+    t: Table,
+    head: &Head,
+    counts: &Counts,
+    places: &Places,
+    out: &mut [u8; 65536],
+    used: &mut usize,
+) -> bool {
     let answer = firewall::check(t, head, counts, places);
     print::checked(answer, out, used);
     true
@@ -91,8 +109,45 @@ fn switch(
     true
 }
 
+// One frame judged many times, at readings that rise by a step.
+fn pace(
+    t: Table,
+    buf: &mut [u8; 65536],
+    span: &mut [usize; 2],
+    image: &mut Image,
+    head: &mut Head,
+    counts: &mut Counts,
+    places: &mut Places,
+    out: &mut [u8; 65536],
+    used: &mut usize,
+) -> bool {
+    if !take(buf, span, image, 0, 8) {
+        return false;
+    }
+    let times = read32(image, 0);
+    let step = wide64(read32(image, 4));
+    if times == 0 {
+        return false;
+    }
+    judge(
+        t,
+        times,
+        step,
+        buf,
+        span,
+        image,
+        head,
+        counts,
+        places,
+        out,
+        used,
+    )
+}
+
 fn judge(
     t: Table,
+    times: u32,
+    step: u64,
     buf: &mut [u8; 65536],
     span: &mut [usize; 2],
     image: &mut Image,
@@ -116,14 +171,70 @@ fn judge(
     if !take(buf, span, image, 12, length) {
         return false;
     }
-    judged(t, image, room, length, head, counts, places, out, used);
+    let reading = earlier(t, image, room, length, times, step, head, counts, places);
+    judged(
+        t,
+        image,
+        reading,
+        room,
+        length,
+        head,
+        counts,
+        places,
+        out,
+        used,
+    );
     true
+}
+
+// A reading that would pass the highest stays.
+fn later(reading: u64, step: u64) -> u64 {
+    if u64::MAX - reading < step {
+        return reading;
+    }
+    reading + step
+}
+
+// All calls but the last; what is left is the reading of that one.
+fn earlier(
+    t: Table,
+    image: &Image,
+    room: usize,
+    length: usize,
+    times: u32,
+    step: u64,
+    head: &mut Head,
+    counts: &mut Counts,
+    places: &mut Places,
+) -> u64
+    requires { ⌜ (room ≤ 512) × (length ≤ 2048) ⌝ }
+{
+    let bytes = &image[..];
+    let end = 12 + length;
+    let mut reading = read64(image, 0);
+    let mut left = times;
+    while 1 < left {
+        let mut space = [170u8; 512];
+        firewall::judge(
+            t,
+            head,
+            counts,
+            places,
+            &bytes[12..end],
+            reading,
+            &mut space[0..room],
+        );
+        reading = later(reading, step);
+        left -= 1;
+    }
+    reading
 }
 
 // The event space is 170 in every byte, so that a byte that was written shows.
 fn judged(
     t: Table,
     image: &Image,
+    reading: u64,
     room: usize,
     length: usize,
     head: &mut Head,
@@ -137,7 +248,15 @@ fn judged(
     let mut space = [170u8; 512];
     let bytes = &image[..];
     let end = 12 + length;
-    let answer = firewall::judge(t, head, counts, places, &bytes[12..end], read64(image, 0), &mut space[0..room]);
+    let answer = firewall::judge(
+        t,
+        head,
+        counts,
+        places,
+        &bytes[12..end],
+        reading,
+        &mut space[0..room],
+    );
     print::judged(answer, space, out, used);
 }
 

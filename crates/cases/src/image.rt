@@ -1,11 +1,33 @@
 // The image of a table and that of records, taken apart.
 ghost use Prim.Native.Nat.{_+_, _≤_, _<_};
-use numbers::{count8, read16, read32, read48, wide64};
-use records::{Counts, Head, Places};
-use table::{
-    Action, Ipv4Settings, Kind, KindSetting, LinkSettings, Prefix, PrefixSetting, Range, RangeSetting, RateSettings, Rule,
-    Setting16, Setting32, Setting64, Setting8, SomeipSettings, State, Table, TrackingSettings, TransportSettings,
-};
+use numbers::count8;
+use numbers::read16;
+use numbers::read32;
+use numbers::read48;
+use numbers::wide64;
+use records::Counts;
+use records::Head;
+use records::Places;
+use table::Action;
+use table::Ipv4Settings;
+use table::Kind;
+use table::KindSetting;
+use table::LinkSettings;
+use table::Prefix;
+use table::PrefixSetting;
+use table::Range;
+use table::RangeSetting;
+use table::RateSettings;
+use table::Rule;
+use table::Setting8;
+use table::Setting16;
+use table::Setting32;
+use table::Setting64;
+use table::SomeipSettings;
+use table::State;
+use table::Table;
+use table::TrackingSettings;
+use table::TransportSettings;
 
 // The bytes after a call's letter: the longest are those of a record image.
 pub type Image = [u8; 33812];
@@ -13,9 +35,10 @@ pub type Image = [u8; 33812];
 type RuleImage = [u8; 192];
 
 pub const TABLE: usize = 12370;
+
 pub const RECORDS: usize = 33812;
 
-pub fn read64(s: &Image, at: usize) -> u64
+pub(crate) fn read64(s: &Image, at: usize) -> u64
     requires { ⌜ at + 8 ≤ 33812 ⌝ }
 {
     wide64(read32(s, at)) * 4294967296 + wide64(read32(s, at + 4))
@@ -35,32 +58,51 @@ fn is_set(set: u32, bit: u32) -> bool
 fn setting8(r: &RuleImage, at: usize, set: u32, bit: u32) -> Setting8
     requires { ⌜ (at < 192) × (bit < 32) ⌝ }
 {
-    if is_set(set, bit) { Setting8::Set(r[at]) } else { Setting8::Unset }
+    if is_set(set, bit) {
+        Setting8::Set(r[at])
+    } else {
+        Setting8::Unset
+    }
 }
 
 fn setting16(r: &RuleImage, at: usize, set: u32, bit: u32) -> Setting16
     requires { ⌜ (at + 2 ≤ 192) × (bit < 32) ⌝ }
 {
-    if is_set(set, bit) { Setting16::Set(read16(r, at)) } else { Setting16::Unset }
+    if is_set(set, bit) {
+        Setting16::Set(read16(r, at))
+    } else {
+        Setting16::Unset
+    }
 }
 
 fn setting32(r: &RuleImage, at: usize, set: u32, bit: u32) -> Setting32
     requires { ⌜ (at + 4 ≤ 192) × (bit < 32) ⌝ }
 {
-    if is_set(set, bit) { Setting32::Set(read32(r, at)) } else { Setting32::Unset }
+    if is_set(set, bit) {
+        Setting32::Set(read32(r, at))
+    } else {
+        Setting32::Unset
+    }
 }
 
 fn setting48(r: &RuleImage, at: usize, set: u32, bit: u32) -> Setting64
     requires { ⌜ (at + 6 ≤ 192) × (bit < 32) ⌝ }
 {
-    if is_set(set, bit) { Setting64::Set(read48(r, at)) } else { Setting64::Unset }
+    if is_set(set, bit) {
+        Setting64::Set(read48(r, at))
+    } else {
+        Setting64::Unset
+    }
 }
 
 fn prefix(r: &RuleImage, at: usize, set: u32, bit: u32) -> PrefixSetting
     requires { ⌜ (at + 5 ≤ 192) × (bit < 32) ⌝ }
 {
     if is_set(set, bit) {
-        PrefixSetting::Set(Prefix { address: read32(r, at), length: r[at + 4] })
+        PrefixSetting::Set(Prefix {
+            address: read32(r, at),
+            length: r[at + 4],
+        })
     } else {
         PrefixSetting::Unset
     }
@@ -70,7 +112,10 @@ fn range(r: &RuleImage, at: usize, set: u32, bit: u32) -> RangeSetting
     requires { ⌜ (at + 4 ≤ 192) × (bit < 32) ⌝ }
 {
     if is_set(set, bit) {
-        RangeSetting::Set(Range { low: read16(r, at), high: read16(r, at + 2) })
+        RangeSetting::Set(Range {
+            low: read16(r, at),
+            high: read16(r, at + 2),
+        })
     } else {
         RangeSetting::Unset
     }
@@ -80,7 +125,11 @@ fn kind(b: u8, set: u32) -> KindSetting {
     if !is_set(set, 8) {
         return KindSetting::Unset;
     }
-    if b == 1 { KindSetting::Set(Kind::Tcp) } else { KindSetting::Set(Kind::Udp) }
+    if b == 1 {
+        KindSetting::Set(Kind::Tcp)
+    } else {
+        KindSetting::Set(Kind::Udp)
+    }
 }
 
 fn link(r: &RuleImage, set: u32) -> LinkSettings {
@@ -120,11 +169,17 @@ fn someip(r: &RuleImage, set: u32) -> SomeipSettings {
 }
 
 fn rate(r: &RuleImage, set: u32) -> RateSettings {
-    RateSettings { size: setting16(r, 52, set, 16), refill: setting16(r, 54, set, 17) }
+    RateSettings {
+        size: setting16(r, 52, set, 16),
+        refill: setting16(r, 54, set, 17),
+    }
 }
 
 fn tracking(r: &RuleImage, set: u32) -> TrackingSettings {
-    TrackingSettings { places: setting8(r, 56, set, 18), limit: setting32(r, 57, set, 19) }
+    TrackingSettings {
+        places: setting8(r, 56, set, 18),
+        limit: setting32(r, 57, set, 19),
+    }
 }
 
 fn rule(r: &RuleImage) -> Rule {
@@ -167,7 +222,10 @@ fn rules(s: &Image) -> [Rule; 64] {
 fn state(s: &Image, at: usize) -> State
     requires { ⌜ at + 10 ≤ 33812 ⌝ }
 {
-    State { default: action(s[at]), marks: read64(s, at + 1) }
+    State {
+        default: action(s[at]),
+        marks: read64(s, at + 1),
+    }
 }
 
 fn states(s: &Image) -> [State; 8] {
@@ -180,8 +238,13 @@ fn states(s: &Image) -> [State; 8] {
     all
 }
 
-pub fn table_of(s: &Image) -> Table {
-    Table { rulecount: count8(s[0]), rules: rules(s), statecount: count8(s[12289]), states: states(s) }
+pub(crate) fn table_of(s: &Image) -> Table {
+    Table {
+        rulecount: count8(s[0]),
+        rules: rules(s),
+        statecount: count8(s[12289]),
+        states: states(s),
+    }
 }
 
 // A free place is all zeros, and a state above 3 is Closing: what an image cannot say, it cannot hold.
@@ -192,7 +255,13 @@ fn place(s: &Image, at: usize) -> [u32; 5]
     if state == 0 {
         return [0; 5];
     }
-    [state, read32(s, at + 1), read32(s, at + 5), read32(s, at + 9), read32(s, at + 13)]
+    [
+        state,
+        read32(s, at + 1),
+        read32(s, at + 5),
+        read32(s, at + 9),
+        read32(s, at + 13),
+    ]
 }
 
 fn phase(b: u8) -> u32 {
@@ -214,7 +283,7 @@ fn held(s: &Image, at: usize, places: &mut [[u32; 5]; 8])
     }
 }
 
-pub fn records_of(s: &Image, head: &mut Head, counts: &mut Counts, places: &mut Places) {
+pub(crate) fn records_of(s: &Image, head: &mut Head, counts: &mut Counts, places: &mut Places) {
     *head = [read64(s, 0), wide64(read32(s, 8))];
     let mut k = 0;
     while k < 64 {

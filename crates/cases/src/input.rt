@@ -3,6 +3,7 @@ ghost use Prim.Native.Nat.{_+_, _≤_};
 use crate::image::Image;
 
 const AT: usize = 0;
+
 const FILL: usize = 1;
 
 // The next byte, or the end of the input.
@@ -24,7 +25,7 @@ fn held(buf: &[u8; 65536], span: &mut [usize; 2]) -> Got {
     Got::Byte(buf[at])
 }
 
-pub fn next(buf: &mut [u8; 65536], span: &mut [usize; 2]) -> Got {
+pub(crate) fn next(buf: &mut [u8; 65536], span: &mut [usize; 2]) -> Got {
     if span[AT] < span[FILL] {
         return held(buf, span);
     }
@@ -35,7 +36,13 @@ pub fn next(buf: &mut [u8; 65536], span: &mut [usize; 2]) -> Got {
 }
 
 // The next n bytes go into the image from `to` on; false where the input is cut short.
-pub fn take(buf: &mut [u8; 65536], span: &mut [usize; 2], image: &mut Image, to: usize, n: usize) -> bool
+pub(crate) fn take(
+    buf: &mut [u8; 65536],
+    span: &mut [usize; 2],
+    image: &mut Image,
+    to: usize,
+    n: usize,
+) -> bool
     requires { ⌜ to + n ≤ 33812 ⌝ }
 {
     let mut i = 0;

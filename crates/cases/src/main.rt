@@ -7,7 +7,9 @@ mod print;
 
 use image::Image;
 use input::Got;
-use records::{Counts, Head, Places};
+use records::Counts;
+use records::Head;
+use records::Places;
 
 // The calls one after the other, with the table and the records held from one to the next. Nothing says that an input
 // ends, so the turns are counted down from a number that no run uses up.
@@ -22,7 +24,18 @@ fn run(buf: &mut [u8; 65536], image: &mut Image, out: &mut [u8; 65536], used: &m
         let Got::Byte(letter) = input::next(buf, &mut span) else {
             return;
         };
-        if !calls::call(letter, t, buf, &mut span, image, &mut head, &mut counts, &mut places, out, used) {
+        if !calls::call(
+            letter,
+            t,
+            buf,
+            &mut span,
+            image,
+            &mut head,
+            &mut counts,
+            &mut places,
+            out,
+            used,
+        ) {
             print::alone(b'?', out, used);
             return;
         }

@@ -1,12 +1,12 @@
 // The output, buffered in an array that is lent about with the count of bytes that it holds.
 
-pub fn flush(out: [u8; 65536], used: usize) {
+pub(crate) fn flush(out: [u8; 65536], used: usize) {
     if used <= 65536 {
         io::write_all(libc::STDOUT_FILENO, &out[0..used]);
     }
 }
 
-pub fn put(out: &mut [u8; 65536], used: &mut usize, b: u8) {
+pub(crate) fn put(out: &mut [u8; 65536], used: &mut usize, b: u8) {
     let at = *used;
     if at < 65536 {
         out[at] = b;
@@ -18,7 +18,7 @@ pub fn put(out: &mut [u8; 65536], used: &mut usize, b: u8) {
     *used = 1;
 }
 
-pub fn text(out: &mut [u8; 65536], used: &mut usize, s: &[u8]) {
+pub(crate) fn text(out: &mut [u8; 65536], used: &mut usize, s: &[u8]) {
     let mut i = 0;
     while i < s.len() {
         put(out, used, s[i]);
@@ -33,7 +33,7 @@ fn decimal(out: &mut [u8; 65536], used: &mut usize, n: u64) {
 }
 
 // The numbers, the first after one byte and the others after another.
-pub fn row(out: &mut [u8; 65536], used: &mut usize, first: u8, later: u8, numbers: &[u64]) {
+pub(crate) fn row(out: &mut [u8; 65536], used: &mut usize, first: u8, later: u8, numbers: &[u64]) {
     let mut before = first;
     let mut i = 0;
     while i < numbers.len() {
@@ -44,7 +44,7 @@ pub fn row(out: &mut [u8; 65536], used: &mut usize, first: u8, later: u8, number
     }
 }
 
-pub fn hex(out: &mut [u8; 65536], used: &mut usize, n: u64, width: usize) {
+pub(crate) fn hex(out: &mut [u8; 65536], used: &mut usize, n: u64, width: usize) {
     let mut digits = [0u8; 16];
     let k = io::hex(n, width, &mut digits);
     text(out, used, &digits[..k]);

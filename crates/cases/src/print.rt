@@ -1,10 +1,27 @@
 // The lines that are printed of an answer and of the records.
-use crate::output::{hex, put, row, text};
+use crate::output::hex;
+use crate::output::put;
+use crate::output::row;
+use crate::output::text;
+use firewall::Checked;
+use firewall::Judged;
+use firewall::Started;
+use firewall::Switched;
 use firewall::refusal::Refusal;
-use firewall::{Checked, Judged, Started, Switched};
-use layers::{Ip, Layers, Link, Message, Packet, Segment, Shown, Someip, Tag, Transport};
+use layers::Ip;
+use layers::Layers;
+use layers::Link;
+use layers::Message;
+use layers::Packet;
+use layers::Segment;
+use layers::Shown;
+use layers::Someip;
+use layers::Tag;
+use layers::Transport;
 use numbers::wide64;
-use records::{Counts, Head, Places};
+use records::Counts;
+use records::Head;
+use records::Places;
 use steps::Answer;
 
 fn byte(x: u8) -> u64 {
@@ -24,7 +41,7 @@ fn flag(x: bool) -> u64 {
 }
 
 // A line of a letter alone.
-pub fn alone(letter: u8, out: &mut [u8; 65536], used: &mut usize) {
+pub(crate) fn alone(letter: u8, out: &mut [u8; 65536], used: &mut usize) {
     put(out, used, letter);
     put(out, used, b'\n');
 }
@@ -39,28 +56,28 @@ fn refused(r: Refusal, out: &mut [u8; 65536], used: &mut usize) {
     put(out, used, b'\n');
 }
 
-pub fn checked(answer: Checked, out: &mut [u8; 65536], used: &mut usize) {
+pub(crate) fn checked(answer: Checked, out: &mut [u8; 65536], used: &mut usize) {
     match answer {
         Checked::Refused(r) => refused(r, out, used),
         Checked::Good => alone(b'C', out, used),
     }
 }
 
-pub fn started(answer: Started, out: &mut [u8; 65536], used: &mut usize) {
+pub(crate) fn started(answer: Started, out: &mut [u8; 65536], used: &mut usize) {
     match answer {
         Started::Refused(r) => refused(r, out, used),
         Started::Fresh => alone(b'F', out, used),
     }
 }
 
-pub fn switched(answer: Switched, out: &mut [u8; 65536], used: &mut usize) {
+pub(crate) fn switched(answer: Switched, out: &mut [u8; 65536], used: &mut usize) {
     match answer {
         Switched::Refused(r) => refused(r, out, used),
         Switched::Done => alone(b'V', out, used),
     }
 }
 
-pub fn judged(answer: Judged, space: [u8; 512], out: &mut [u8; 65536], used: &mut usize) {
+pub(crate) fn judged(answer: Judged, space: [u8; 512], out: &mut [u8; 65536], used: &mut usize) {
     match answer {
         Judged::Refused(r) => {
             refusal(r.number, r.place, out, used);
@@ -74,7 +91,13 @@ fn answered(a: Answer, space: &[u8; 512], out: &mut [u8; 65536], used: &mut usiz
     let verdict = a.verdict;
     let length = a.length;
     put(out, used, b'J');
-    row(out, used, b' ', b' ', &[byte(verdict.number), short(a.rule), count(length)]);
+    row(
+        out,
+        used,
+        b' ',
+        b' ',
+        &[byte(verdict.number), short(a.rule), count(length)],
+    );
     event(space, length, out, used);
     ended(space, length, out, used);
 }
@@ -119,7 +142,7 @@ fn ended(space: &[u8; 512], length: usize, out: &mut [u8; 65536], used: &mut usi
     }
 }
 
-pub fn shown(answer: Shown, out: &mut [u8; 65536], used: &mut usize) {
+pub(crate) fn shown(answer: Shown, out: &mut [u8; 65536], used: &mut usize) {
     match answer {
         Shown::Refused(r) => refusal(r.number, 0, out, used),
         Shown::Shows(l) => frame(l, out, used),
@@ -151,7 +174,13 @@ fn link(l: Link, out: &mut [u8; 65536], used: &mut usize) {
 fn tag(t: Tag, out: &mut [u8; 65536], used: &mut usize) {
     match t {
         Tag::Untagged => text(out, used, b" -"),
-        Tag::Tagged { priority, vlan } => row(out, used, b' ', b',', &[byte(priority), short(vlan)]),
+        Tag::Tagged { priority, vlan } => row(
+            out,
+            used,
+            b' ',
+            b',',
+            &[byte(priority), short(vlan)],
+        ),
     }
 }
 
@@ -163,7 +192,12 @@ fn ip(i: Ip, out: &mut [u8; 65536], used: &mut usize) {
 }
 
 fn packet(p: Packet) -> [u64; 4] {
-    [wide64(p.source), wide64(p.destination), byte(p.protocol), count(p.hlen)]
+    [
+        wide64(p.source),
+        wide64(p.destination),
+        byte(p.protocol),
+        count(p.hlen),
+    ]
 }
 
 fn transport(t: Transport, out: &mut [u8; 65536], used: &mut usize) {
@@ -175,13 +209,27 @@ fn transport(t: Transport, out: &mut [u8; 65536], used: &mut usize) {
         }
         Transport::Udp(d) => {
             text(out, used, b" U");
-            row(out, used, b',', b',', &[short(d.source), short(d.destination)]);
+            row(
+                out,
+                used,
+                b',',
+                b',',
+                &[short(d.source), short(d.destination)],
+            );
         }
     }
 }
 
 fn segment(s: Segment) -> [u64; 7] {
-    [short(s.source), short(s.destination), flag(s.fin), flag(s.syn), flag(s.rst), flag(s.ack), count(s.hlen)]
+    [
+        short(s.source),
+        short(s.destination),
+        flag(s.fin),
+        flag(s.syn),
+        flag(s.rst),
+        flag(s.ack),
+        count(s.hlen),
+    ]
 }
 
 fn someip(s: Someip, out: &mut [u8; 65536], used: &mut usize) {
@@ -192,10 +240,22 @@ fn someip(s: Someip, out: &mut [u8; 65536], used: &mut usize) {
 }
 
 fn message(m: Message) -> [u64; 5] {
-    [short(m.service), short(m.method), byte(m.version), byte(m.kind), byte(m.code)]
+    [
+        short(m.service),
+        short(m.method),
+        byte(m.version),
+        byte(m.kind),
+        byte(m.code),
+    ]
 }
 
-pub fn all_records(head: &Head, counts: &Counts, places: &Places, out: &mut [u8; 65536], used: &mut usize) -> bool {
+pub(crate) fn all_records(
+    head: &Head,
+    counts: &Counts,
+    places: &Places,
+    out: &mut [u8; 65536],
+    used: &mut usize,
+) -> bool {
     line(b'P', &totals(head, &counts[64]), out, used);
     let mut k = 0;
     while k < 64 {
@@ -218,11 +278,27 @@ fn totals(head: &Head, counts: &[u32; 3]) -> [u64; 4] {
     [head[0], head[1], wide64(counts[1]), wide64(counts[2])]
 }
 
-fn rule(k: usize, counts: &[u32; 3], places: &[[u32; 5]; 8], out: &mut [u8; 65536], used: &mut usize) {
+fn rule(
+    k: usize,
+    counts: &[u32; 3],
+    places: &[[u32; 5]; 8],
+    out: &mut [u8; 65536],
+    used: &mut usize,
+) {
     if empty(counts, places) {
         return;
     }
-    line(b'p', &[count(k), wide64(counts[0]), wide64(counts[1]), wide64(counts[2])], out, used);
+    line(
+        b'p',
+        &[
+            count(k),
+            wide64(counts[0]),
+            wide64(counts[1]),
+            wide64(counts[2]),
+        ],
+        out,
+        used,
+    );
     conversations(k, places, out, used);
 }
 

@@ -1,12 +1,12 @@
 -- The entry points' definitions, case by case.
 -- Assumes nothing.
 use Prim.Native.Nat.{ℕ, _<_, _≤_}
-use mathlib.Core.Path.{_≡_, refl, sym, ap, _∙_}
+use mathlib.Core.Path.{_≡_, refl, ap, _∙_}
 use mathlib.Core.Bool.{Bool, true, false, cond}
 use mathlib.Core.List.{List}
 use native.Mathlib.Omega.{arith}
 use borrow.Author.Tests.{lt-ltb, le-ltb}
-use lib.ListN.{length, getD, set, length-set}
+use lib.ListN.{length, set, length-set}
 use lib.Seq.{getD-set-same, getD-set-other}
 use Rattle.layers.specs.Layers.{numberOf}
 use Rattle.layers.specs.declared.Layers.{Layers}
@@ -18,7 +18,7 @@ use Rattle.table.specs.declared.Table.{Table}
 use Rattle.table.specs.declared.Fault.{Fault}
 use Rattle.table.specs.declared.Fault.the-variants as fault
 use Rattle.table.specs.Table.{faultOf}
-use Rattle.records.specs.Records.{Words, Records, words, recordsOf, wordsOf, Shaped}
+use Rattle.records.specs.Records.{Words, words, recordsOf, Shaped}
 use Rattle.records.specs.Good.{recordsGood}
 use Rattle.records.specs.Step.{freshOf, switchedTo}
 use Rattle.steps.specs.Steps.{Arrival, outcomeOf, Stepped, steppedAs}

@@ -1,8 +1,8 @@
 -- The entry points: what each call says and leaves, for every input. Document 01, 'Verdicts, events, refusals'.
 -- Assumes nothing.
 use Prim.Native.Nat.{ℕ}
-use mathlib.Core.List.{List, [], _∷_}
-use mathlib.Core.Bool.{Bool, true, false, cond}
+use mathlib.Core.List.{List}
+use mathlib.Core.Bool.{cond}
 use lib.ListN.{length}
 use lib.Dec.{ltb}
 use Rattle.layers.specs.Layers.{shownOf}
@@ -12,7 +12,7 @@ use Rattle.table.specs.declared.Table.{Table}
 use Rattle.table.specs.declared.Fault.{Fault}
 use Rattle.table.specs.declared.Fault.the-variants as fault
 use Rattle.table.specs.Table.{faultOf}
-use Rattle.records.specs.Records.{Words, Records, recordsOf, wordsOf}
+use Rattle.records.specs.Records.{Words, recordsOf, wordsOf}
 use Rattle.records.specs.Good.{recordsGood}
 use Rattle.records.specs.Step.{freshOf, switchedTo}
 use Rattle.steps.specs.Steps.{Arrival, Outcome, outcomeOf, written}

@@ -30,7 +30,7 @@ use steps::Answer;
 use steps::step;
 use table::Fault;
 use table::Table;
-use table::check::fault;
+use table::faults::fault;
 
 pub enum Checked {
     Refused(Refusal),

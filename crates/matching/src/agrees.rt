@@ -4,7 +4,7 @@ ghost use lib.Dec.{eqb};
 ghost use Rattle.table.specs.Settings.{of8, of16, of64, ofKind, ofRange, ofPrefix, agrees, inRange, inPrefix, sameKind, prefixAgrees};
 use table::*;
 
-pub fn agrees8(s: Setting8, x: u8) -> bool
+pub(crate) fn agrees8(s: Setting8, x: u8) -> bool
     ensures { λ r. ⌜ r ≡ agrees eqb (of8 s) x ⌝ }
 {
     match s {
@@ -13,7 +13,7 @@ pub fn agrees8(s: Setting8, x: u8) -> bool
     }
 }
 
-pub fn agrees16(s: Setting16, x: u16) -> bool
+pub(crate) fn agrees16(s: Setting16, x: u16) -> bool
     ensures { λ r. ⌜ r ≡ agrees eqb (of16 s) x ⌝ }
 {
     match s {
@@ -22,7 +22,7 @@ pub fn agrees16(s: Setting16, x: u16) -> bool
     }
 }
 
-pub fn agrees64(s: Setting64, x: u64) -> bool
+pub(crate) fn agrees64(s: Setting64, x: u64) -> bool
     ensures { λ r. ⌜ r ≡ agrees eqb (of64 s) x ⌝ }
 {
     match s {
@@ -31,7 +31,7 @@ pub fn agrees64(s: Setting64, x: u64) -> bool
     }
 }
 
-pub fn agrees_kind(s: KindSetting, x: Kind) -> bool
+pub(crate) fn agrees_kind(s: KindSetting, x: Kind) -> bool
     ensures { λ r. ⌜ r ≡ agrees sameKind (ofKind s) x ⌝ }
 {
     match s {
@@ -50,7 +50,7 @@ pub fn agrees_kind(s: KindSetting, x: Kind) -> bool
 }
 
 // Both ends are included.
-pub fn agrees_range(s: RangeSetting, x: u16) -> bool
+pub(crate) fn agrees_range(s: RangeSetting, x: u16) -> bool
     ensures { λ r. ⌜ r ≡ agrees inRange (ofRange s) x ⌝ }
 {
     match s {
@@ -60,7 +60,7 @@ pub fn agrees_range(s: RangeSetting, x: u16) -> bool
 }
 
 // Only the leading bits are compared: the others are shifted out, and a shift by the whole width is left out.
-pub fn prefix_agrees(length: u8, a: u32, b: u32) -> bool
+pub(crate) fn prefix_agrees(length: u8, a: u32, b: u32) -> bool
     ensures { λ r. ⌜ r ≡ prefixAgrees 32 length a b ⌝ }
 {
     if length == 0 {
@@ -73,7 +73,7 @@ pub fn prefix_agrees(length: u8, a: u32, b: u32) -> bool
     (a >> k) == (b >> k)
 }
 
-pub fn agrees_prefix(s: PrefixSetting, x: u32) -> bool
+pub(crate) fn agrees_prefix(s: PrefixSetting, x: u32) -> bool
     ensures { λ r. ⌜ r ≡ agrees inPrefix (ofPrefix s) x ⌝ }
 {
     match s {

@@ -45,7 +45,7 @@ pub fn decider(t: Table, state: usize, s: &[u8], l: Layers) -> usize
 }
 
 // One more than the layers matched of an active rule, and 0 for one that is not active.
-pub fn score(r: Rule, marks: u64, i: usize, s: &[u8], l: Layers) -> usize
+pub(crate) fn score(r: Rule, marks: u64, i: usize, s: &[u8], l: Layers) -> usize
     requires { ⌜ i < 64 ⌝ }
     ensures { λ n. ⌜ n ≡ cond (markedAt marks i) (suc (leading (layerTests r (now (s .entry)) l))) 0 ⌝ }
 {

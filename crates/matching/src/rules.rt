@@ -1,7 +1,7 @@
 // Does a layer of a rule match what a frame shows of it, and does the rule?
 ghost use mathlib.Core.Path.{_≡_};
 ghost use Rattle.numbers.specs.Lists.{every};
-ghost use Rattle.matching.specs.Matching.{tagTests, linkMatches, ipv4Matches, portsAgree, transportMatches, someipMatches, ruleMatches, layerTests};
+ghost use Rattle.matching.specs.Matching.{tagTests, linkMatches, ipv4Matches, portsAgree, transportMatches, someipMatches, layerTests};
 ghost use Rattle.matching.specs.Best.{leading};
 use crate::agrees::*;
 use layers::*;
@@ -9,7 +9,7 @@ use table::settings::*;
 use table::*;
 
 // VLAN settings never agree with an untagged frame.
-pub fn tag_agrees(r: LinkSettings, x: Tag) -> bool
+pub(crate) fn tag_agrees(r: LinkSettings, x: Tag) -> bool
     ensures { λ g. ⌜ g ≡ every (tagTests r x) ⌝ }
 {
     let vlan = r.vlan;
@@ -23,7 +23,7 @@ pub fn tag_agrees(r: LinkSettings, x: Tag) -> bool
     }
 }
 
-pub fn link_matches(r: LinkSettings, x: Link) -> bool
+pub(crate) fn link_matches(r: LinkSettings, x: Link) -> bool
     ensures { λ g. ⌜ g ≡ linkMatches r x ⌝ }
 {
     let destination = r.destination;
@@ -43,7 +43,7 @@ pub fn link_matches(r: LinkSettings, x: Link) -> bool
 }
 
 // Absent: no setting. Present: every setting agrees, and an unset one always does.
-pub fn ipv4_matches(r: Ipv4Settings, x: Ip) -> bool
+pub(crate) fn ipv4_matches(r: Ipv4Settings, x: Ip) -> bool
     ensures { λ g. ⌜ g ≡ ipv4Matches r x ⌝ }
 {
     let source = r.source;
@@ -63,7 +63,7 @@ pub fn ipv4_matches(r: Ipv4Settings, x: Ip) -> bool
     }
 }
 
-pub fn ports_agree(r: TransportSettings, k: Kind, from: u16, to: u16) -> bool
+pub(crate) fn ports_agree(r: TransportSettings, k: Kind, from: u16, to: u16) -> bool
     ensures { λ g. ⌜ g ≡ portsAgree r k from to ⌝ }
 {
     let kind = r.kind;
@@ -78,7 +78,7 @@ pub fn ports_agree(r: TransportSettings, k: Kind, from: u16, to: u16) -> bool
     agrees_range(destination, to)
 }
 
-pub fn transport_matches(r: TransportSettings, x: Transport) -> bool
+pub(crate) fn transport_matches(r: TransportSettings, x: Transport) -> bool
     ensures { λ g. ⌜ g ≡ transportMatches r x ⌝ }
 {
     let kind = r.kind;
@@ -91,7 +91,7 @@ pub fn transport_matches(r: TransportSettings, x: Transport) -> bool
     }
 }
 
-pub fn someip_matches(r: SomeipSettings, s: &[u8], x: Someip) -> bool
+pub(crate) fn someip_matches(r: SomeipSettings, s: &[u8], x: Someip) -> bool
     ensures { λ g. ⌜ g ≡ someipMatches r (now (s .entry)) x ⌝ }
 {
     let service = r.service;
@@ -109,7 +109,7 @@ pub fn someip_matches(r: SomeipSettings, s: &[u8], x: Someip) -> bool
 }
 
 // The layers that match, from link upward to the first that does not.
-pub fn layers_matched(r: Rule, s: &[u8], l: Layers) -> usize
+pub(crate) fn layers_matched(r: Rule, s: &[u8], l: Layers) -> usize
     ensures { λ n. ⌜ n ≡ leading (layerTests r (now (s .entry)) l) ⌝ }
 {
     let ip = l.ip;
@@ -128,22 +128,4 @@ pub fn layers_matched(r: Rule, s: &[u8], l: Layers) -> usize
         return 3;
     }
     4
-}
-
-pub fn rule_matches(r: Rule, s: &[u8], l: Layers) -> bool
-    ensures { λ g. ⌜ g ≡ ruleMatches r (now (s .entry)) l ⌝ }
-{
-    let ip = l.ip;
-    let transport = l.transport;
-    let someip = l.someip;
-    if !link_matches(r.link, l.link) {
-        return false;
-    }
-    if !ipv4_matches(r.ipv4, ip) {
-        return false;
-    }
-    if !transport_matches(r.transport, transport) {
-        return false;
-    }
-    someip_matches(r.someip, s, someip)
 }

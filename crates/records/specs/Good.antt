@@ -46,7 +46,8 @@ clean p =
     leb (p .state) 3
     && (not (isFree p) || every (eqb (p .quad .source) 0 ∷ eqb (p .quad .destination) 0 ∷ eqb (p .quad .ports) 0 ∷ eqb (p .age) 0 ∷ []))
 
--- The tests of the places, of which the rule has n
+-- The tests of the places, of which the rule has n: "a conversation stands on a rule without tracking" (n is 0) "or in a place the rule doesn't have";
+-- "a quadruple repeats within one rule"; "an age is not below the idle limit"; words that are no record
 abbrev pub placesTests : ℕ → ℕ → List Place → List Bool
 placesTests n limit ps =
     everyOf isFree (drop n ps)

@@ -176,20 +176,6 @@ pub ticked-small :
     → recordsOf one ≡ ticked t reading (recordsOf w) → getD (one .head) 1 0 < 8
 ticked-small t reading w one e h q = state-small t one e (rw q (ticked-good t reading (recordsOf w) h))
 
--- good records stay good
-pub outcome-good :
-    (t : Table) (s : Records) (a : Arrival) (l : Layers) → faultOf t ≡ fault.Good → recordsGood t s ≡ true
-    → recordsGood t (outcomeOf t s a l .records) ≡ true
-unfolding outcomeOf
-outcome-good t s a l e h =
-    acted-good t _ _ _ e (decider-rule t (s .state) (a .bytes) l) (ticked-good t (a .reading) s h)
-
--- and keep their shape
-pub outcome-shaped :
-    (t : Table) (s : Records) (a : Arrival) (l : Layers) → ShapedRecords s → ShapedRecords (outcomeOf t s a l .records)
-unfolding outcomeOf
-outcome-shaped t s a l h = acted-shaped t _ _ _ (ticked-shaped t (a .reading) s h)
-
 -- words that hold these records are these
 pub words-are : (w : Words) (s : Records) → Shaped w → recordsOf w ≡ s → w ≡ wordsOf s
 words-are w s h e = sym (words-back w h) ∙ ap wordsOf e
@@ -250,3 +236,19 @@ pub step-is :
 unfolding recordsOf
 step-is t a l w one two g d v id n space after decides looks ticks says acts h e x =
     step-parts t a l w one two g d v decides looks ticks says acts id n space after h e x
+
+-- ---- what it keeps
+
+-- good records stay good
+pub outcome-good :
+    (t : Table) (s : Records) (a : Arrival) (l : Layers) → faultOf t ≡ fault.Good → recordsGood t s ≡ true
+    → recordsGood t (outcomeOf t s a l .records) ≡ true
+unfolding outcomeOf
+outcome-good t s a l e h =
+    acted-good t _ _ _ e (decider-rule t (s .state) (a .bytes) l) (ticked-good t (a .reading) s h)
+
+-- and keep their shape
+pub outcome-shaped :
+    (t : Table) (s : Records) (a : Arrival) (l : Layers) → ShapedRecords s → ShapedRecords (outcomeOf t s a l .records)
+unfolding outcomeOf
+outcome-shaped t s a l h = acted-shaped t _ _ _ (ticked-shaped t (a .reading) s h)

@@ -1,5 +1,5 @@
 pub mod Chains
 pub mod Prefixes
 pub mod Rules
-pub mod Faults
+pub mod FirstFault
 pub mod Good

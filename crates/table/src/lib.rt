@@ -1,5 +1,5 @@
 // Settings, rules, vehicle states, and the table that holds them.
-pub mod check;
+pub mod faults;
 pub mod settings;
 
 pub enum Action {

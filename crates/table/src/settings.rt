@@ -68,7 +68,7 @@ pub fn unset_prefix(s: PrefixSetting) -> bool
     }
 }
 
-pub fn within8(s: Setting8, low: u8, high: u8) -> bool
+pub(crate) fn within8(s: Setting8, low: u8, high: u8) -> bool
     ensures { λ r. ⌜ r ≡ within (fromTo low high) (of8 s) ⌝ }
 {
     match s {
@@ -77,7 +77,7 @@ pub fn within8(s: Setting8, low: u8, high: u8) -> bool
     }
 }
 
-pub fn within16(s: Setting16, low: u16, high: u16) -> bool
+pub(crate) fn within16(s: Setting16, low: u16, high: u16) -> bool
     ensures { λ r. ⌜ r ≡ within (fromTo low high) (of16 s) ⌝ }
 {
     match s {
@@ -86,7 +86,7 @@ pub fn within16(s: Setting16, low: u16, high: u16) -> bool
     }
 }
 
-pub fn within32(s: Setting32, low: u32, high: u32) -> bool
+pub(crate) fn within32(s: Setting32, low: u32, high: u32) -> bool
     ensures { λ r. ⌜ r ≡ within (fromTo low high) (of32 s) ⌝ }
 {
     match s {
@@ -95,7 +95,7 @@ pub fn within32(s: Setting32, low: u32, high: u32) -> bool
     }
 }
 
-pub fn within64(s: Setting64, low: u64, high: u64) -> bool
+pub(crate) fn within64(s: Setting64, low: u64, high: u64) -> bool
     ensures { λ r. ⌜ r ≡ within (fromTo low high) (of64 s) ⌝ }
 {
     match s {
@@ -104,7 +104,7 @@ pub fn within64(s: Setting64, low: u64, high: u64) -> bool
     }
 }
 
-pub fn prefix_good(s: PrefixSetting) -> bool
+pub(crate) fn prefix_good(s: PrefixSetting) -> bool
     ensures { λ r. ⌜ r ≡ within prefixGood (ofPrefix s) ⌝ }
 {
     match s {
@@ -114,7 +114,7 @@ pub fn prefix_good(s: PrefixSetting) -> bool
 }
 
 // In order, and not without a kind.
-pub fn ports_good(kind: KindSetting, ports: RangeSetting) -> bool
+pub(crate) fn ports_good(kind: KindSetting, ports: RangeSetting) -> bool
     ensures { λ r. ⌜ r ≡ portsGood kind ports ⌝ }
 {
     match ports {

@@ -1,20 +1,26 @@
 // A line of the output, filled in at fixed columns.
 ghost use Prim.Native.Nat.{_≤_};
-use firewall::refusal::Refusal;
 use firewall::Judged;
-use numbers::{read16, wide64};
+use firewall::refusal::Refusal;
+use numbers::read16;
+use numbers::wide64;
 use steps::Answer;
 
 pub type Line = [u8; 128];
 
 const READING: usize = 42;
+
 const VERDICT: usize = 44;
+
 const RULE: usize = 67;
+
 const EVENT: usize = 76;
+
 pub const FIRST: usize = 92;
+
 pub const SECOND: usize = 108;
 
-pub fn put(line: &mut Line, at: usize, s: &[u8]) {
+pub(crate) fn put(line: &mut Line, at: usize, s: &[u8]) {
     let mut to = at;
     let mut i = 0;
     while i < s.len() {
@@ -47,7 +53,7 @@ fn length(line: &Line) -> usize {
     0
 }
 
-pub fn print(line: Line) {
+pub(crate) fn print(line: Line) {
     let n = length(&line);
     if n <= 128 {
         io::write_all(libc::STDOUT_FILENO, &line[0..n]);
@@ -56,7 +62,7 @@ pub fn print(line: Line) {
 }
 
 // The line of a judged frame, but for what is said of the records.
-pub fn judged(label: &[u8], reading: u64, answer: Judged, space: &[u8; 256]) -> Line {
+pub(crate) fn judged(label: &[u8], reading: u64, answer: Judged, space: &[u8; 256]) -> Line {
     let mut line = [b' '; 128];
     put(&mut line, 0, label);
     number(&mut line, READING, reading);
@@ -121,7 +127,7 @@ fn short(x: u16) -> u64 {
     x as u64
 }
 
-pub fn level(mut line: Line, at: usize, n: u32) -> Line
+pub(crate) fn level(mut line: Line, at: usize, n: u32) -> Line
     requires { ⌜ at ≤ 108 ⌝ }
 {
     put(&mut line, at, b"level");
@@ -130,7 +136,7 @@ pub fn level(mut line: Line, at: usize, n: u32) -> Line
 }
 
 // A place for a conversation: free, or its state and age.
-pub fn place(mut line: Line, at: usize, words: &[u32; 5]) -> Line
+pub(crate) fn place(mut line: Line, at: usize, words: &[u32; 5]) -> Line
     requires { ⌜ at ≤ 108 ⌝ }
 {
     let state = words[0];
@@ -152,7 +158,7 @@ fn phase(line: &mut Line, at: usize, state: u32) {
     }
 }
 
-pub fn title() {
+pub(crate) fn title() {
     let mut line = [b' '; 128];
     put(&mut line, 5, b"frame");
     put(&mut line, READING - 7, b"reading");

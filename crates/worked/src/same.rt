@@ -1,5 +1,7 @@
 // Two records compared, word by word.
-use records::{Counts, Head, Places};
+use records::Counts;
+use records::Head;
+use records::Places;
 
 fn place(a: &[u32; 5], b: &[u32; 5]) -> bool {
     (a[0] == b[0]) & (a[1] == b[1]) & (a[2] == b[2]) & (a[3] == b[3]) & (a[4] == b[4])
@@ -42,7 +44,7 @@ fn counted(a: &Counts, b: &Counts) -> bool {
     true
 }
 
-pub fn records(
+pub(crate) fn records(
     head: &Head,
     counts: &Counts,
     places: &Places,

@@ -29,7 +29,7 @@ act-requires c κs =
     let a = c .before .before .before .before .before .before .before .before .before .before .before .before .args in
     let p = c .before .before .before .before .before .before .before .before .before .before .before .before .pre in (
       rw (c .before .before .before .before .before .before .before .decider .ensures) (decider-small (a .t) _ _ _ (good-count (a .t) (p .0))),
-      ticked-small (a .t) (a .reading) _ _ (p .0) (p .1 .0) (c .before .before .before .tick .ensures),
+      ticked-small (a .t) _ _ _ (p .0) (p .1 .0) (c .before .before .before .tick .ensures),
       few-places (a .t) _ _ _ _ (p .0) (c .before .before .before .before .before .before .before .decider .ensures),
     )
 

@@ -3,8 +3,8 @@ use Rattle.table.specs.Settings.{ofKind}
 use Rattle.table.proofs.Chains.{stops, goes, ends, skips}
 use Rattle.table.proofs.Rules.{any-good}
 use borrow.Author.Needs.{needs}
-use Rattle.table.proofs.check.transport_good.Statement.{statement}
-use Rattle.table.proofs.check.transport_good.Tie as tie
+use Rattle.table.proofs.faults.transport_good.Statement.{statement}
+use Rattle.table.proofs.faults.transport_good.Tie as tie
 
 ports-good-requires : tie.Need-ports-good-requires
 ports-good-requires c κs = search needs

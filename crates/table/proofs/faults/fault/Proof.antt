@@ -9,11 +9,11 @@ use Rattle.table.specs.Table.{ruleAt, faulty, statesGood, faultOf}
 use Rattle.table.specs.declared.Fault.the-variants as fault
 use Rattle.table.proofs.Chains.{stops, goes}
 use Rattle.table.proofs.Rules.{Seen, seen-none, seen-next}
-use Rattle.table.proofs.Faults.{tested, fault-count, fault-here, fault-next, fault-states}
+use Rattle.table.proofs.FirstFault.{tested, fault-count, fault-here, fault-next, fault-states}
 use borrow.Author.Needs.{needs}
 use native.Mathlib.Omega.{arith}
-use Rattle.table.proofs.check.fault.Statement.{statement}
-use Rattle.table.proofs.check.fault.Tie as tie
+use Rattle.table.proofs.faults.fault.Statement.{statement}
+use Rattle.table.proofs.faults.fault.Tie as tie
 
 abbrev Inv-loop : tie.InvT-loop
 Inv-loop t count ids₀ i₀ ids i =

@@ -3,8 +3,8 @@ use Rattle.table.specs.Settings.{of16}
 use Rattle.table.proofs.Chains.{stops, goes, ends, skips}
 use Rattle.table.proofs.Rules.{any-good}
 use borrow.Author.Needs.{needs}
-use Rattle.table.proofs.check.link_good.Statement.{statement}
-use Rattle.table.proofs.check.link_good.Tie as tie
+use Rattle.table.proofs.faults.link_good.Statement.{statement}
+use Rattle.table.proofs.faults.link_good.Tie as tie
 
 within64-requires : tie.Need-within64-requires
 within64-requires c κs = search needs

@@ -13,7 +13,7 @@ use crate::*;
 const NO_ID: u16 = 65535;
 
 // Within its range, and at no place of the ids seen. All 64 are compared: a loop of fixed length is done many places at a time.
-pub fn id_good(ids: &[u16; 64], id: u16) -> bool
+pub(crate) fn id_good(ids: &[u16; 64], id: u16) -> bool
     ensures { λ r. ⌜ r ≡ (leb id 65534 && allBelow (λ j. not (eqb (getD (now (ids .entry)) j 0) id)) 64) ⌝ }
 {
     let mut fresh = true;
@@ -25,7 +25,7 @@ pub fn id_good(ids: &[u16; 64], id: u16) -> bool
     (id <= 65534) & fresh
 }
 
-pub fn link_good(r: Rule) -> bool
+pub(crate) fn link_good(r: Rule) -> bool
     ensures { λ g. ⌜ g ≡ every (linkTests (r .link)) ⌝ }
 {
     let s = r.link;
@@ -45,7 +45,7 @@ pub fn link_good(r: Rule) -> bool
     within8(priority, 0, 7)
 }
 
-pub fn ipv4_good(r: Rule) -> bool
+pub(crate) fn ipv4_good(r: Rule) -> bool
     ensures { λ g. ⌜ g ≡ every (ipv4Tests (r .ipv4)) ⌝ }
 {
     let s = r.ipv4;
@@ -57,7 +57,7 @@ pub fn ipv4_good(r: Rule) -> bool
     prefix_good(destination)
 }
 
-pub fn transport_good(r: Rule) -> bool
+pub(crate) fn transport_good(r: Rule) -> bool
     ensures { λ g. ⌜ g ≡ every (transportTests (r .transport)) ⌝ }
 {
     let s = r.transport;
@@ -71,7 +71,7 @@ pub fn transport_good(r: Rule) -> bool
 }
 
 // Both or neither.
-pub fn rate_good(r: Rule) -> bool
+pub(crate) fn rate_good(r: Rule) -> bool
     ensures { λ g. ⌜ g ≡ every (rateTests (r .rate)) ⌝ }
 {
     let s = r.rate;
@@ -81,7 +81,7 @@ pub fn rate_good(r: Rule) -> bool
 }
 
 // Both or neither, each within its range, and only on a rule that may track.
-pub fn tracking_good(r: Rule) -> bool
+pub(crate) fn tracking_good(r: Rule) -> bool
     ensures { λ g. ⌜ g ≡ every (trackingTests (r .tracking) (mayTrack r)) ⌝ }
 {
     let s = r.tracking;
@@ -102,7 +102,7 @@ pub fn tracking_good(r: Rule) -> bool
 }
 
 // No mark stands at place n or beyond.
-pub fn marks_good(n: usize, marks: u64) -> bool
+pub(crate) fn marks_good(n: usize, marks: u64) -> bool
     requires { ⌜ n ≤ 64 ⌝ }
     ensures { λ r. ⌜ r ≡ marksGood n marks ⌝ }
 {
@@ -112,7 +112,7 @@ pub fn marks_good(n: usize, marks: u64) -> bool
     (marks >> n) == 0
 }
 
-pub fn states_good(rulecount: usize, statecount: usize, states: [State; 8]) -> bool
+pub(crate) fn states_good(rulecount: usize, statecount: usize, states: [State; 8]) -> bool
     requires { ⌜ rulecount ≤ 64 ⌝ }
     ensures { λ r. ⌜ r ≡ statesGood rulecount statecount states ⌝ }
 {

@@ -8,8 +8,8 @@ use Rattle.numbers.proofs.Lists.{below-none}
 use Rattle.table.proofs.Chains.{both}
 use Rattle.table.proofs.Rules.{below-more}
 use native.Mathlib.Omega.{arith}
-use Rattle.table.proofs.check.id_good.Statement.{statement}
-use Rattle.table.proofs.check.id_good.Tie as tie
+use Rattle.table.proofs.faults.id_good.Statement.{statement}
+use Rattle.table.proofs.faults.id_good.Tie as tie
 
 abbrev Inv-loop : tie.InvT-loop
 Inv-loop ids id fresh₀ j₀ fresh j = (j ≤ 64) × (fresh ≡ allBelow (λ k. not (eqb (getD ids k 0) id)) j)

@@ -6,8 +6,8 @@ use Rattle.numbers.specs.Lists.{allBelow}
 use Rattle.numbers.proofs.Lists.{below-none, below-next, below-fails}
 use Rattle.table.specs.Table.{stateGood, statesGood}
 use native.Mathlib.Omega.{arith}
-use Rattle.table.proofs.check.states_good.Statement.{statement}
-use Rattle.table.proofs.check.states_good.Tie as tie
+use Rattle.table.proofs.faults.states_good.Statement.{statement}
+use Rattle.table.proofs.faults.states_good.Tie as tie
 
 abbrev Inv-loop : tie.InvT-loop
 Inv-loop rulecount statecount states k₀ k = (k ≤ statecount) × (allBelow (stateGood rulecount states) k ≡ true)

@@ -3,8 +3,8 @@ use Rattle.table.specs.Settings.{of8}
 use Rattle.table.proofs.Chains.{stops, goes, ends, skips}
 use Rattle.table.proofs.Rules.{any-good}
 use borrow.Author.Needs.{needs}
-use Rattle.table.proofs.check.ipv4_good.Statement.{statement}
-use Rattle.table.proofs.check.ipv4_good.Tie as tie
+use Rattle.table.proofs.faults.ipv4_good.Statement.{statement}
+use Rattle.table.proofs.faults.ipv4_good.Tie as tie
 
 prefix-good-requires : tie.Need-prefix-good-requires
 prefix-good-requires c κs = search needs

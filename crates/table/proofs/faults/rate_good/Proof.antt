@@ -1,8 +1,8 @@
 use Rattle.table.specs.Settings.{of16}
 use Rattle.table.proofs.Rules.{pair-both}
 use borrow.Author.Needs.{needs}
-use Rattle.table.proofs.check.rate_good.Statement.{statement}
-use Rattle.table.proofs.check.rate_good.Tie as tie
+use Rattle.table.proofs.faults.rate_good.Statement.{statement}
+use Rattle.table.proofs.faults.rate_good.Tie as tie
 
 unset16-requires : tie.Need-unset16-requires
 unset16-requires c κs = search needs

@@ -4,8 +4,8 @@ use Rattle.table.specs.Table.{mayTrack}
 use Rattle.table.proofs.Rules.{no-places, no-limit, both-halves}
 use Rattle.table.proofs.Chains.{both}
 use borrow.Author.Needs.{needs}
-use Rattle.table.proofs.check.tracking_good.Statement.{statement}
-use Rattle.table.proofs.check.tracking_good.Tie as tie
+use Rattle.table.proofs.faults.tracking_good.Statement.{statement}
+use Rattle.table.proofs.faults.tracking_good.Tie as tie
 
 enum-told : tie.Need-enum-told
 enum-told c = search needs

@@ -1,0 +1,181 @@
+//! Streams for timing: one scene's table and records, each of its frames judged many times, then the records printed.
+
+use std::io::{self, Write};
+
+use crate::draft::{Damage, Draft};
+use crate::image::{read_table, write_records, write_table, TABLE_IMAGE};
+use crate::layers::{Kind, ACK, ETHER_IPV4};
+use crate::random::Random;
+use crate::records::{Conversation, Quadruple, Records, RUNNING};
+use crate::table::{set, Action, Prefix, Range, Rule, State, Table, LONGEST_IDLE, PLACES, RULES};
+use crate::table_t::{arp, frame_a, table_t};
+
+/// The reading of the records and of the first frame.
+const START: u64 = 1_000_000;
+/// The event space of each call.
+const SPACE: u16 = 256;
+/// Link, IPv4 and TCP headers without options.
+const HEADERS: usize = 54;
+const LONGEST: usize = 1_518;
+const SOURCE: u32 = 0x0a00_0001;
+const DESTINATION: u32 = 0x0a01_0001;
+const HTTPS: u16 = 443;
+/// The rule at a place of the larger tables is for the ports from here on.
+const FIRST_PORT: u16 = 10_000;
+const PORTS_A_RULE: u16 = 10;
+const PORT_OF_NO_RULE: u16 = 40_000;
+
+pub struct Scene {
+    table: Table,
+    records: Records,
+    frames: Vec<Vec<u8>>,
+}
+
+/// The scene that these words name.
+pub fn scene(words: &[&str]) -> Option<Scene> {
+    match *words {
+        ["worked"] => Some(worked()),
+        ["last"] => Some(ports(first_port(RULES - 1))),
+        ["none"] => Some(ports(PORT_OF_NO_RULE)),
+        ["held"] => Some(held()),
+        ["grow", rules, held, length] => grow(rules.parse().ok()?, held.parse().ok()?, length.parse().ok()?),
+        _ => None,
+    }
+}
+
+impl Scene {
+    /// Each frame `times` times, one reading after the other.
+    pub fn write(&self, times: u32, step: u32, output: &mut impl Write) -> io::Result<()> {
+        let random = &mut Random::new(0);
+        output.write_all(b"T")?;
+        output.write_all(&write_table(&self.table, random))?;
+        output.write_all(b"R")?;
+        output.write_all(&write_records(&self.records, random))?;
+        let mut reading = START;
+        for frame in &self.frames {
+            output.write_all(b"B")?;
+            output.write_all(&[times.to_be_bytes(), step.to_be_bytes()].concat())?;
+            output.write_all(&reading.to_be_bytes())?;
+            output.write_all(&[SPACE.to_be_bytes(), (frame.len() as u16).to_be_bytes()].concat())?;
+            output.write_all(frame)?;
+            reading += u64::from(times) * u64::from(step);
+        }
+        output.write_all(b"P")
+    }
+}
+
+/// Table T: a frame that passes, one over its rate, one that a rule blocks, one that the default blocks.
+fn worked() -> Scene {
+    let (mut low, mut other) = (frame_a(), frame_a());
+    low[36..38].copy_from_slice(&68u16.to_be_bytes());
+    other[56] = 0x81;
+    Scene { table: table_t(), records: Records::empty(START), frames: vec![frame_a(), arp(), low, other] }
+}
+
+/// Rules that differ in their range of ports, and a frame to one port.
+fn ports(port: u16) -> Scene {
+    let table = table(RULES, Action::Block, port_rule);
+    let frame = frame(Kind::Udp, 30_491, port, 22);
+    Scene { table, records: Records::empty(START), frames: vec![frame] }
+}
+
+/// All places held, and a frame of the last conversation.
+fn held() -> Scene {
+    let table = table(RULES, Action::Block, tracked_rule);
+    let mut draft = draft(Kind::Tcp, HTTPS, first_port(RULES - 1), 10);
+    draft.source = quadruple(RULES - 1, PLACES - 1).source;
+    Scene { table, records: running(RULES, PLACES), frames: vec![draft.bytes(&mut Random::new(0))] }
+}
+
+/// So many tracked rules, so many places of each held, and a frame of that length that no rule matches and the default allows.
+fn grow(rules: usize, held: usize, length: usize) -> Option<Scene> {
+    if rules > RULES || held > PLACES || !(HEADERS..=LONGEST).contains(&length) {
+        return None;
+    }
+    let table = table(rules, Action::Allow, tracked_rule);
+    let frame = frame(Kind::Tcp, HTTPS, PORT_OF_NO_RULE, length - HEADERS);
+    Some(Scene { table, records: running(rules, held), frames: vec![frame] })
+}
+
+/// A table of one state in which every rule is active.
+fn table(rules: usize, default: Action, rule: fn(usize) -> Rule) -> Table {
+    let mut table = read_table(&[0; TABLE_IMAGE]);
+    for place in 0..rules {
+        table.rules[place] = rule(place);
+    }
+    let marks = (0..rules).map(|place| 1 << place).sum();
+    (table.rule_count, table.state_count) = (rules as u8, 1);
+    table.states[0] = State { default, marks };
+    table
+}
+
+fn first_port(place: usize) -> u16 {
+    FIRST_PORT + PORTS_A_RULE * place as u16
+}
+
+fn allow(place: usize, settings: u32) -> Rule {
+    Rule { id: 1 + place as u16, action: Action::Allow, set: settings, ..read_table(&[0; TABLE_IMAGE]).rules[0] }
+}
+
+fn port_rule(place: usize) -> Rule {
+    Rule {
+        ether: ETHER_IPV4,
+        source: Prefix { address: 0x0a00_0000, length: 8 },
+        kind: Kind::Udp,
+        dports: Range { low: first_port(place), high: first_port(place) + PORTS_A_RULE - 1 },
+        ..allow(place, set::ETHER | set::SOURCE | set::KIND | set::DEST_PORTS)
+    }
+}
+
+fn tracked_rule(place: usize) -> Rule {
+    Rule {
+        kind: Kind::Tcp,
+        sports: Range { low: HTTPS, high: HTTPS },
+        dports: Range { low: first_port(place), high: first_port(place) },
+        places: PLACES as u8,
+        idle: LONGEST_IDLE,
+        ..allow(place, set::KIND | set::PORTS | set::TRACKING)
+    }
+}
+
+fn quadruple(place: usize, slot: usize) -> Quadruple {
+    Quadruple { source: SOURCE + slot as u32, destination: DESTINATION, sport: HTTPS, dport: first_port(place) }
+}
+
+/// The first places of the first rules are held, all Running.
+fn running(rules: usize, held: usize) -> Records {
+    let mut records = Records::empty(START);
+    for place in 0..rules {
+        for slot in 0..held {
+            records.held[place][slot] = RUNNING;
+            records.conversations[place][slot] = Conversation { quadruple: quadruple(place, slot), age: 0 };
+        }
+    }
+    records
+}
+
+fn frame(kind: Kind, sport: u16, dport: u16, payload: usize) -> Vec<u8> {
+    draft(kind, sport, dport, payload).bytes(&mut Random::new(0))
+}
+
+fn draft(kind: Kind, sport: u16, dport: u16, payload: usize) -> Draft {
+    Draft {
+        dst: 0x021b_bbbb_bbbb,
+        src: 0x021a_aaaa_aaaa,
+        tags: vec![],
+        ether: ETHER_IPV4,
+        ip: true,
+        source: SOURCE,
+        destination: DESTINATION,
+        protocol: None,
+        ip_options: 0,
+        kind,
+        sport,
+        dport,
+        flags: ACK,
+        tcp_options: 0,
+        message: None,
+        payload,
+        damage: Damage::None,
+    }
+}
