@@ -61,10 +61,15 @@ pub(crate) fn print(line: Line) {
     io::write_all(libc::STDOUT_FILENO, b"\n");
 }
 
-// The line of a judged frame, but for what is said of the records.
-pub(crate) fn judged(label: &[u8], reading: u64, answer: Judged, space: &[u8; 256]) -> Line {
-    let mut line = [b' '; 128];
-    put(&mut line, 0, label);
+// The rest of a judged frame's line, but for what is said of the records.
+pub(crate) fn judged(
+    mut line: Line,
+    example: &[u8],
+    reading: u64,
+    answer: Judged,
+    space: &[u8; 256],
+) -> Line {
+    put(&mut line, 0, example);
     number(&mut line, READING, reading);
     match answer {
         Judged::Refused(r) => refused(&mut line, r),

@@ -1,20 +1,36 @@
 // Prints M1 to M11 of the paper's worked set, through the entry points: a line for each frame.
 ghost use Prim.Native.Nat.{_≤_};
 
+mod frames;
 mod line;
 mod same;
 mod set;
 
+use firewall::Judged;
 use firewall::Started;
+use frames::Frame;
+use frames::a;
+use frames::a_cut;
+use frames::a_padded;
+use frames::a_to_port_68;
+use frames::a_to_port_1024;
+use frames::a_with_type;
+use frames::ack;
+use frames::arp;
+use frames::first_13;
+use frames::longest;
+use frames::syn_ack;
+use frames::syn1;
+use frames::syn2;
+use frames::syn3;
+use frames::tagged_17;
+use frames::too_long;
 use line::FIRST;
 use line::Line;
 use line::SECOND;
 use records::Counts;
 use records::Head;
 use records::Places;
-use set::ACK;
-use set::Frame;
-use set::SYN;
 use table::Table;
 
 // The places of rules 20 and 30 in the table.
@@ -28,39 +44,6 @@ enum Look {
     Level,
     Places,
     Both,
-}
-
-fn fresh(t: Table, head: &mut Head, counts: &mut Counts, places: &mut Places) {
-    let Started::Fresh = firewall::fresh(t, 0, head, counts, places) else {
-        io::write_all(libc::STDOUT_FILENO, b"the table is refused\n");
-        return;
-    };
-}
-
-fn judged(
-    label: &[u8],
-    t: Table,
-    head: &mut Head,
-    counts: &mut Counts,
-    places: &mut Places,
-    frame: &Frame,
-    length: usize,
-    reading: u64,
-) -> Line
-    requires { ⌜ length ≤ 1519 ⌝ }
-{
-    let bytes = &frame[..];
-    let mut space = [0u8; 256];
-    let answer = firewall::judge(
-        t,
-        head,
-        counts,
-        places,
-        &bytes[0..length],
-        reading,
-        &mut space,
-    );
-    line::judged(label, reading, answer, &space)
 }
 
 fn looked(line: Line, look: Look, counts: &Counts, places: &Places) -> Line {
@@ -80,392 +63,138 @@ fn looked(line: Line, look: Look, counts: &Counts, places: &Places) -> Line {
     }
 }
 
-// One frame judged, and its line.
-fn show(
-    label: &[u8],
+fn fresh(t: Table, head: &mut Head, counts: &mut Counts, places: &mut Places) {
+    let Started::Fresh = firewall::fresh(t, 0, head, counts, places) else {
+        io::write_all(libc::STDOUT_FILENO, b"the table is refused\n");
+        return;
+    };
+}
+
+// The first bytes of an array, judged.
+fn judge(
+    bytes: &[u8; 1519],
+    length: usize,
+    reading: u64,
     t: Table,
     head: &mut Head,
     counts: &mut Counts,
     places: &mut Places,
-    frame: &Frame,
-    length: usize,
-    reading: u64,
-    look: Look,
-)
+    space: &mut [u8; 256],
+) -> Judged
     requires { ⌜ length ≤ 1519 ⌝ }
 {
-    let line = judged(label, t, head, counts, places, frame, length, reading);
-    line::print(looked(line, look, counts, places));
+    let all = &bytes[..];
+    firewall::judge(t, head, counts, places, &all[0..length], reading, space)
+}
+
+// One frame judged, and its line.
+fn show(
+    example: &[u8],
+    f: Frame,
+    reading: u64,
+    look: Look,
+    t: Table,
+    head: &mut Head,
+    counts: &mut Counts,
+    places: &mut Places,
+) {
+    let bytes = f.bytes;
+    let length = f.length;
+    let line = f.line;
+    if 1519 < length {
+        return;
+    }
+    let mut space = [0u8; 256];
+    let answer = judge(&bytes, length, reading, t, head, counts, places, &mut space);
+    let told = line::judged(line, example, reading, answer, &space);
+    line::print(looked(told, look, counts, places));
 }
 
 // One frame for a fresh record.
 fn alone(
-    label: &[u8],
+    example: &[u8],
+    f: Frame,
     t: Table,
     head: &mut Head,
     counts: &mut Counts,
     places: &mut Places,
-    frame: &Frame,
-    length: usize,
-)
-    requires { ⌜ length ≤ 1519 ⌝ }
-{
+) {
     fresh(t, head, counts, places);
-    show(
-        label,
-        t,
-        head,
-        counts,
-        places,
-        frame,
-        length,
-        0,
-        Look::Nothing,
-    );
+    show(example, f, 0, Look::Nothing, t, head, counts, places);
 }
 
 fn m1_to_m4(t: Table, head: &mut Head, counts: &mut Counts, places: &mut Places) {
-    let a = set::a();
-    alone(b"M1   A", t, head, counts, places, &a, 72);
-    alone(
-        b"M2   A with four zero bytes added",
-        t,
-        head,
-        counts,
-        places,
-        &a,
-        76,
-    );
-    alone(
-        b"M3   A with type 0x81",
-        t,
-        head,
-        counts,
-        places,
-        &set::with_type(0x81),
-        72,
-    );
-    alone(
-        b"M4   A less its last byte",
-        t,
-        head,
-        counts,
-        places,
-        &a,
-        71,
-    );
+    alone(b"M1", a(), t, head, counts, places);
+    alone(b"M2", a_padded(), t, head, counts, places);
+    alone(b"M3", a_with_type(), t, head, counts, places);
+    alone(b"M4", a_cut(), t, head, counts, places);
 }
 
 fn m5(t: Table, head: &mut Head, counts: &mut Counts, places: &mut Places) {
     fresh(t, head, counts, places);
-    let frame = set::arp();
-    show(
-        b"M5   0x0806",
-        t,
-        head,
-        counts,
-        places,
-        &frame,
-        60,
-        0,
-        Look::Level,
-    );
-    show(
-        b"M5   0x0806",
-        t,
-        head,
-        counts,
-        places,
-        &frame,
-        60,
-        0,
-        Look::Level,
-    );
-    show(
-        b"M5   0x0806",
-        t,
-        head,
-        counts,
-        places,
-        &frame,
-        60,
-        0,
-        Look::Level,
-    );
-    show(
-        b"M5   0x0806",
-        t,
-        head,
-        counts,
-        places,
-        &frame,
-        60,
-        1000,
-        Look::Level,
-    );
-    show(
-        b"M5   0x0806",
-        t,
-        head,
-        counts,
-        places,
-        &frame,
-        60,
-        2000,
-        Look::Level,
-    );
-    show(
-        b"M5   0x0806",
-        t,
-        head,
-        counts,
-        places,
-        &frame,
-        60,
-        4000,
-        Look::Level,
-    );
+    show(b"M5", arp(), 0, Look::Level, t, head, counts, places);
+    show(b"M5", arp(), 0, Look::Level, t, head, counts, places);
+    show(b"M5", arp(), 0, Look::Level, t, head, counts, places);
+    show(b"M5", arp(), 1000, Look::Level, t, head, counts, places);
+    show(b"M5", arp(), 2000, Look::Level, t, head, counts, places);
+    show(b"M5", arp(), 4000, Look::Level, t, head, counts, places);
 }
 
 fn m6(t: Table, head: &mut Head, counts: &mut Counts, places: &mut Places) {
     fresh(t, head, counts, places);
-    show(
-        b"M6   ACK to port 50001",
-        t,
-        head,
-        counts,
-        places,
-        &set::tcp(1, ACK),
-        60,
-        0,
-        Look::Places,
-    );
-    show(
-        b"M6   SYN+ACK to port 50001",
-        t,
-        head,
-        counts,
-        places,
-        &set::tcp(1, SYN + ACK),
-        60,
-        0,
-        Look::Places,
-    );
-    show(
-        b"M6   ACK to port 50001",
-        t,
-        head,
-        counts,
-        places,
-        &set::tcp(1, ACK),
-        60,
-        0,
-        Look::Places,
-    );
+    show(b"M6", ack(), 0, Look::Places, t, head, counts, places);
+    show(b"M6", syn_ack(), 0, Look::Places, t, head, counts, places);
+    show(b"M6", ack(), 0, Look::Places, t, head, counts, places);
 }
 
 fn m7(t: Table, head: &mut Head, counts: &mut Counts, places: &mut Places) {
     fresh(t, head, counts, places);
-    let third = set::tcp(3, SYN);
-    show(
-        b"M7   SYN to port 50001",
-        t,
-        head,
-        counts,
-        places,
-        &set::tcp(1, SYN),
-        60,
-        0,
-        Look::Places,
-    );
-    show(
-        b"M7   SYN to port 50002",
-        t,
-        head,
-        counts,
-        places,
-        &set::tcp(2, SYN),
-        60,
-        0,
-        Look::Places,
-    );
-    show(
-        b"M7   SYN to port 50003",
-        t,
-        head,
-        counts,
-        places,
-        &third,
-        60,
-        0,
-        Look::Places,
-    );
-    show(
-        b"M7   SYN to port 50003",
-        t,
-        head,
-        counts,
-        places,
-        &third,
-        60,
-        999,
-        Look::Places,
-    );
-    show(
-        b"M7   SYN to port 50003",
-        t,
-        head,
-        counts,
-        places,
-        &third,
-        60,
-        1000,
-        Look::Places,
-    );
+    show(b"M7", syn1(), 0, Look::Places, t, head, counts, places);
+    show(b"M7", syn2(), 0, Look::Places, t, head, counts, places);
+    show(b"M7", syn3(), 0, Look::Places, t, head, counts, places);
+    show(b"M7", syn3(), 999, Look::Places, t, head, counts, places);
+    show(b"M7", syn3(), 1000, Look::Places, t, head, counts, places);
 }
 
 fn m8(t: Table, head: &mut Head, counts: &mut Counts, places: &mut Places) {
     fresh(t, head, counts, places);
-    show(
-        b"M8   SYN to port 50001",
-        t,
-        head,
-        counts,
-        places,
-        &set::tcp(1, SYN),
-        60,
-        1000000,
-        Look::Both,
-    );
-    show(
-        b"M8   0x0806",
-        t,
-        head,
-        counts,
-        places,
-        &set::arp(),
-        60,
-        0,
-        Look::Both,
-    );
-    show(
-        b"M8   0x0806",
-        t,
-        head,
-        counts,
-        places,
-        &set::arp(),
-        60,
-        500,
-        Look::Both,
-    );
+    show(b"M8", syn1(), 1000000, Look::Both, t, head, counts, places);
+    show(b"M8", arp(), 0, Look::Both, t, head, counts, places);
+    show(b"M8", arp(), 500, Look::Both, t, head, counts, places);
 }
 
 fn m9(t: Table, head: &mut Head, counts: &mut Counts, places: &mut Places) {
-    alone(
-        b"M9   A with destination port 68",
-        t,
-        head,
-        counts,
-        places,
-        &set::with_port(0, 68),
-        72,
-    );
-    alone(
-        b"M9   A with destination port 1024",
-        t,
-        head,
-        counts,
-        places,
-        &set::with_port(4, 0),
-        72,
-    );
+    alone(b"M9", a_to_port_68(), t, head, counts, places);
+    alone(b"M9", a_to_port_1024(), t, head, counts, places);
 }
 
 fn m10(t: Table, head: &mut Head, counts: &mut Counts, places: &mut Places) {
-    let a = set::a();
-    alone(
-        b"M10  the first 13 bytes of A",
-        t,
-        head,
-        counts,
-        places,
-        &a,
-        13,
-    );
-    alone(
-        b"M10  17 bytes, tagged",
-        t,
-        head,
-        counts,
-        places,
-        &set::tagged(),
-        17,
-    );
-    alone(
-        b"M10  A with zeros to 1518",
-        t,
-        head,
-        counts,
-        places,
-        &a,
-        1518,
-    );
-    alone(
-        b"M10  A with zeros to 1519",
-        t,
-        head,
-        counts,
-        places,
-        &a,
-        1519,
-    );
+    alone(b"M10", first_13(), t, head, counts, places);
+    alone(b"M10", tagged_17(), t, head, counts, places);
+    alone(b"M10", longest(), t, head, counts, places);
+    alone(b"M10", too_long(), t, head, counts, places);
 }
 
-// A and an 0x0806 frame at one reading, in both orders.
 fn m11(t: Table, head: &mut Head, counts: &mut Counts, places: &mut Places) {
-    let a = set::a();
-    let b = set::arp();
     fresh(t, head, counts, places);
-    show(b"M11  A", t, head, counts, places, &a, 72, 500, Look::Level);
-    show(
-        b"M11  then 0x0806",
-        t,
-        head,
-        counts,
-        places,
-        &b,
-        60,
-        500,
-        Look::Level,
-    );
-    let first = *head;
-    let counted = *counts;
-    let held = *places;
+    show(b"M11", a(), 500, Look::Level, t, head, counts, places);
+    show(b"M11", arp(), 500, Look::Level, t, head, counts, places);
+}
+
+// The other order, from records of its own.
+fn m11_turned(t: Table, head: &mut Head, counts: &mut Counts, places: &mut Places) {
     fresh(t, head, counts, places);
-    show(
-        b"M11  0x0806",
-        t,
-        head,
-        counts,
-        places,
-        &b,
-        60,
-        500,
-        Look::Level,
-    );
-    show(
-        b"M11  then A",
-        t,
-        head,
-        counts,
-        places,
-        &a,
-        72,
-        500,
-        Look::Level,
-    );
-    if same::records(&first, &counted, &held, head, counts, places) {
+    show(b"M11", arp(), 500, Look::Level, t, head, counts, places);
+    show(b"M11", a(), 500, Look::Level, t, head, counts, places);
+}
+
+fn both_orders(t: Table, head: &mut Head, counts: &mut Counts, places: &mut Places) {
+    let mut head2: Head = [0; 2];
+    let mut counts2: Counts = [[0; 3]; 65];
+    let mut places2: Places = [[[0; 5]; 8]; 64];
+    m11(t, head, counts, places);
+    m11_turned(t, &mut head2, &mut counts2, &mut places2);
+    if same::records(head, counts, places, &head2, &counts2, &places2) {
         io::write_all(
             libc::STDOUT_FILENO,
             b"M11  both orders leave the same records, word by word\n",
@@ -491,5 +220,5 @@ fn main() {
     m8(t, &mut head, &mut counts, &mut places);
     m9(t, &mut head, &mut counts, &mut places);
     m10(t, &mut head, &mut counts, &mut places);
-    m11(t, &mut head, &mut counts, &mut places);
+    both_orders(t, &mut head, &mut counts, &mut places);
 }

@@ -1,5 +1,4 @@
-// The worked set of the paper: the table T and the frames.
-ghost use Prim.Native.Nat.{_+_, _≤_};
+// The table T of the worked set: default block, all active.
 use table::Action;
 use table::Ipv4Settings;
 use table::Kind;
@@ -65,106 +64,91 @@ fn someip(service: Setting16, kind: Setting8) -> SomeipSettings {
     }
 }
 
-fn no_transport() -> TransportSettings {
-    transport(KindSetting::Unset, RangeSetting::Unset, RangeSetting::Unset)
-}
-
-fn rate(size: Setting16, refill: Setting16) -> RateSettings {
-    RateSettings { size, refill }
-}
-
-fn tracking(places: Setting8, limit: Setting32) -> TrackingSettings {
-    TrackingSettings { places, limit }
-}
-
-// Without any setting.
-fn no_rule() -> Rule {
+// A rule without any setting.
+fn rule(id: u16, action: Action) -> Rule {
     Rule {
-        id: 0,
-        action: Action::Allow,
+        id,
+        action,
         link: link(Setting16::Unset),
         ipv4: ipv4(PrefixSetting::Unset),
-        transport: no_transport(),
+        transport: transport(KindSetting::Unset, RangeSetting::Unset, RangeSetting::Unset),
         someip: someip(Setting16::Unset, Setting8::Unset),
-        rate: rate(Setting16::Unset, Setting16::Unset),
-        tracking: tracking(Setting8::Unset, Setting32::Unset),
+        rate: RateSettings {
+            size: Setting16::Unset,
+            refill: Setting16::Unset,
+        },
+        tracking: TrackingSettings {
+            places: Setting8::Unset,
+            limit: Setting32::Unset,
+        },
     }
 }
 
 // 10 allow, ether 0x0800, source 10.0.0.0/8, UDP destination 30501-30501, service 0x1000, type 0x80.
 fn rule10() -> Rule {
-    Rule {
-        id: 10,
-        action: Action::Allow,
-        link: link(Setting16::Set(0x0800)),
-        ipv4: ipv4(PrefixSetting::Set(Prefix {
-            address: 0x0a000000,
-            length: 8,
-        })),
-        transport: transport(
-            KindSetting::Set(Kind::Udp),
-            RangeSetting::Unset,
-            ports(30501, 30501),
-        ),
-        someip: someip(Setting16::Set(0x1000), Setting8::Set(0x80)),
-        rate: rate(Setting16::Unset, Setting16::Unset),
-        tracking: tracking(Setting8::Unset, Setting32::Unset),
-    }
+    let link = link(Setting16::Set(0x0800));
+    let ipv4 = ipv4(PrefixSetting::Set(Prefix {
+        address: 0x0a000000,
+        length: 8,
+    }));
+    let transport = transport(
+        KindSetting::Set(Kind::Udp),
+        RangeSetting::Unset,
+        ports(30501, 30501),
+    );
+    let someip = someip(Setting16::Set(0x1000), Setting8::Set(0x80));
+    let mut r = rule(10, Action::Allow);
+    r.link = link;
+    r.ipv4 = ipv4;
+    r.transport = transport;
+    r.someip = someip;
+    r
 }
 
 // 20 allow, TCP source 443-443, 2 places, limit 1,000.
 fn rule20() -> Rule {
-    Rule {
-        id: 20,
-        action: Action::Allow,
-        link: link(Setting16::Unset),
-        ipv4: ipv4(PrefixSetting::Unset),
-        transport: transport(
-            KindSetting::Set(Kind::Tcp),
-            ports(443, 443),
-            RangeSetting::Unset,
-        ),
-        someip: someip(Setting16::Unset, Setting8::Unset),
-        rate: rate(Setting16::Unset, Setting16::Unset),
-        tracking: tracking(Setting8::Set(2), Setting32::Set(1000)),
-    }
+    let transport = transport(
+        KindSetting::Set(Kind::Tcp),
+        ports(443, 443),
+        RangeSetting::Unset,
+    );
+    let tracking = TrackingSettings {
+        places: Setting8::Set(2),
+        limit: Setting32::Set(1000),
+    };
+    let mut r = rule(20, Action::Allow);
+    r.transport = transport;
+    r.tracking = tracking;
+    r
 }
 
 // 30 allow, ether 0x0806, size 2, refill 1.
 fn rule30() -> Rule {
-    Rule {
-        id: 30,
-        action: Action::Allow,
-        link: link(Setting16::Set(0x0806)),
-        ipv4: ipv4(PrefixSetting::Unset),
-        transport: no_transport(),
-        someip: someip(Setting16::Unset, Setting8::Unset),
-        rate: rate(Setting16::Set(2), Setting16::Set(1)),
-        tracking: tracking(Setting8::Unset, Setting32::Unset),
-    }
+    let link = link(Setting16::Set(0x0806));
+    let rate = RateSettings {
+        size: Setting16::Set(2),
+        refill: Setting16::Set(1),
+    };
+    let mut r = rule(30, Action::Allow);
+    r.link = link;
+    r.rate = rate;
+    r
 }
 
 // 40 block, UDP destination 0-1023.
 fn rule40() -> Rule {
-    Rule {
-        id: 40,
-        action: Action::Block,
-        link: link(Setting16::Unset),
-        ipv4: ipv4(PrefixSetting::Unset),
-        transport: transport(
-            KindSetting::Set(Kind::Udp),
-            RangeSetting::Unset,
-            ports(0, 1023),
-        ),
-        someip: someip(Setting16::Unset, Setting8::Unset),
-        rate: rate(Setting16::Unset, Setting16::Unset),
-        tracking: tracking(Setting8::Unset, Setting32::Unset),
-    }
+    let transport = transport(
+        KindSetting::Set(Kind::Udp),
+        RangeSetting::Unset,
+        ports(0, 1023),
+    );
+    let mut r = rule(40, Action::Block);
+    r.transport = transport;
+    r
 }
 
-// Default block, all active.
 pub(crate) fn table() -> Table {
-    let mut rules = [no_rule(); 64];
+    let mut rules = [rule(0, Action::Allow); 64];
     rules[0] = rule10();
     rules[1] = rule20();
     rules[2] = rule30();
@@ -179,277 +163,4 @@ pub(crate) fn table() -> Table {
         statecount: 1,
         states,
     }
-}
-
-// Frame A.
-const A: [u8; 72] = [
-    0x02,
-    0x1b,
-    0xbb,
-    0xbb,
-    0xbb,
-    0xbb,
-    0x02,
-    0x1a,
-    0xaa,
-    0xaa,
-    0xaa,
-    0xaa,
-    0x08,
-    0x00,
-    0x45,
-    0x00,
-    0x00,
-    0x3a,
-    0x00,
-    0x01,
-    0x00,
-    0x00,
-    0x40,
-    0x11,
-    0x66,
-    0xb0,
-    0x0a,
-    0x00,
-    0x00,
-    0x01,
-    0x0a,
-    0x01,
-    0x00,
-    0x01,
-    0x77,
-    0x1b,
-    0x77,
-    0x25,
-    0x00,
-    0x26,
-    0xe8,
-    0xb9,
-    0x10,
-    0x00,
-    0x01,
-    0x11,
-    0x00,
-    0x00,
-    0x00,
-    0x16,
-    0x00,
-    0x01,
-    0x00,
-    0x03,
-    0x01,
-    0x01,
-    0x80,
-    0x00,
-    0x34,
-    0x33,
-    0x39,
-    0x37,
-    0x41,
-    0x30,
-    0x38,
-    0x42,
-    0x37,
-    0x35,
-    0x30,
-    0x30,
-    0x34,
-    0x36,
-];
-
-// An 0x0806 frame of 60 bytes: who has 10.1.0.1, tell 10.0.0.1.
-const ARP: [u8; 60] = [
-    0xff,
-    0xff,
-    0xff,
-    0xff,
-    0xff,
-    0xff,
-    0x02,
-    0x1a,
-    0xaa,
-    0xaa,
-    0xaa,
-    0xaa,
-    0x08,
-    0x06,
-    0x00,
-    0x01,
-    0x08,
-    0x00,
-    0x06,
-    0x04,
-    0x00,
-    0x01,
-    0x02,
-    0x1a,
-    0xaa,
-    0xaa,
-    0xaa,
-    0xaa,
-    0x0a,
-    0x00,
-    0x00,
-    0x01,
-    0x00,
-    0x00,
-    0x00,
-    0x00,
-    0x00,
-    0x00,
-    0x0a,
-    0x01,
-    0x00,
-    0x01,
-    0,
-    0,
-    0,
-    0,
-    0,
-    0,
-    0,
-    0,
-    0,
-    0,
-    0,
-    0,
-    0,
-    0,
-    0,
-    0,
-    0,
-    0,
-];
-
-// A TCP frame of 60 bytes from 10.0.0.2 port 443 to 10.1.0.1 port 50,000, without flags; the last 6 bytes are padding.
-const TCP: [u8; 60] = [
-    0x02,
-    0x1b,
-    0xbb,
-    0xbb,
-    0xbb,
-    0xbb,
-    0x02,
-    0x1a,
-    0xaa,
-    0xaa,
-    0xaa,
-    0xaa,
-    0x08,
-    0x00,
-    0x45,
-    0x00,
-    0x00,
-    0x28,
-    0x00,
-    0x02,
-    0x40,
-    0x00,
-    0x40,
-    0x06,
-    0x26,
-    0xcb,
-    0x0a,
-    0x00,
-    0x00,
-    0x02,
-    0x0a,
-    0x01,
-    0x00,
-    0x01,
-    0x01,
-    0xbb,
-    0xc3,
-    0x50,
-    0x00,
-    0x00,
-    0x00,
-    0x00,
-    0x00,
-    0x00,
-    0x00,
-    0x00,
-    0x50,
-    0x00,
-    0x40,
-    0x00,
-    0x96,
-    0xd5,
-    0x00,
-    0x00,
-    0,
-    0,
-    0,
-    0,
-    0,
-    0,
-];
-
-pub const SYN: u8 = 2;
-
-pub const ACK: u8 = 16;
-
-// A frame's bytes, with zeros behind them: its length is said beside it.
-pub type Frame = [u8; 1519];
-
-// A, at any length from A less a byte to the longest.
-pub(crate) fn a() -> Frame {
-    let mut f = [0u8; 1519];
-    let mut i = 0;
-    while i < 72 {
-        f[i] = A[i];
-        i += 1;
-    }
-    f
-}
-
-// A with another message type.
-pub(crate) fn with_type(kind: u8) -> Frame {
-    let mut f = a();
-    f[56] = kind;
-    f
-}
-
-// A with another destination port.
-pub(crate) fn with_port(high: u8, low: u8) -> Frame {
-    let mut f = a();
-    f[36] = high;
-    f[37] = low;
-    f
-}
-
-// A with a tag, of which 17 bytes are judged.
-pub(crate) fn tagged() -> Frame {
-    let mut f = a();
-    f[12] = 0x81;
-    f[13] = 0;
-    f[14] = 0;
-    f[15] = 1;
-    f[16] = 8;
-    f
-}
-
-fn short(bytes: [u8; 60]) -> Frame {
-    let mut f = [0u8; 1519];
-    let mut i = 0;
-    while i < 60 {
-        f[i] = bytes[i];
-        i += 1;
-    }
-    f
-}
-
-pub(crate) fn arp() -> Frame {
-    short(ARP)
-}
-
-// The n-th conversation is with port 50,000 + n. The flags and the port stand in the checksum too.
-pub(crate) fn tcp(n: u8, flags: u8) -> Frame
-    requires { ⌜ n + flags ≤ 150 ⌝ }
-{
-    let mut bytes = TCP;
-    bytes[37] = 0x50 + n;
-    bytes[47] = flags;
-    bytes[51] = 0xd5 - n - flags;
-    short(bytes)
 }
