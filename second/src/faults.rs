@@ -158,8 +158,7 @@ pub fn spoil_records(records: &mut Records, table: &Table, fault: &str, random: 
 
 fn hold(records: &mut Records, place: usize, slot: usize, age: u32) {
     records.held[place][slot] = OPENING;
-    records.conversations[place][slot] =
-        Conversation { quadruple: Quadruple { source: 1, destination: 2, sport: 3, dport: 4 }, age };
+    records.conversations[place][slot] = Conversation { quadruple: Quadruple::new(1, 2, 3, 4), age };
 }
 
 /// A held conversation as asked: its place, slot and age.

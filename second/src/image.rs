@@ -91,7 +91,7 @@ fn read_place(image: &[u8], records: &mut Records, place: usize, slot: usize) {
         return;
     }
     let (source, destination) = (be32(image, 1), be32(image, 5));
-    let quadruple = Quadruple { source, destination, sport: be16(image, 9), dport: be16(image, 11) };
+    let quadruple = Quadruple::new(source, destination, be16(image, 9), be16(image, 11));
     records.held[place][slot] = image[0].min(CLOSING);
     records.conversations[place][slot] = Conversation { quadruple, age: be32(image, 13) };
 }
@@ -188,7 +188,7 @@ fn write_place(records: &Records, place: usize, slot: usize, image: &mut [u8], r
     let conversation = &records.conversations[place][slot];
     put(image, 1, &conversation.quadruple.source.to_be_bytes());
     put(image, 5, &conversation.quadruple.destination.to_be_bytes());
-    put(image, 9, &conversation.quadruple.sport.to_be_bytes());
-    put(image, 11, &conversation.quadruple.dport.to_be_bytes());
+    put(image, 9, &conversation.quadruple.sport().to_be_bytes());
+    put(image, 11, &conversation.quadruple.dport().to_be_bytes());
     put(image, 13, &conversation.age.to_be_bytes());
 }

@@ -119,7 +119,7 @@ fn track(rule: &Rule, records: &mut Records, place: usize, layers: &Layers) -> V
     let (Some(ip), Some(tcp)) = (&layers.ip, &layers.transport) else {
         return Verdict::WrongSegment;
     };
-    let quadruple = Quadruple { source: ip.source, destination: ip.destination, sport: tcp.sport, dport: tcp.dport };
+    let quadruple = Quadruple::new(ip.source, ip.destination, tcp.sport, tcp.dport);
     match records.find(place, quadruple) {
         None => begin(rule, records, place, quadruple, segment(tcp.flags)),
         Some(slot) => proceed(records, place, slot, segment(tcp.flags)),

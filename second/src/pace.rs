@@ -139,7 +139,7 @@ fn tracked_rule(place: usize) -> Rule {
 }
 
 fn quadruple(place: usize, slot: usize) -> Quadruple {
-    Quadruple { source: SOURCE + slot as u32, destination: DESTINATION, sport: HTTPS, dport: first_port(place) }
+    Quadruple::new(SOURCE + slot as u32, DESTINATION, HTTPS, first_port(place))
 }
 
 /// The first places of the first rules are held, all Running.

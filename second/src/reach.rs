@@ -227,8 +227,7 @@ impl Reach {
             return;
         }
         let (Some(ip), Some(tcp)) = (layers.ip, layers.transport) else { return };
-        let quadruple =
-            Quadruple { source: ip.source, destination: ip.destination, sport: tcp.sport, dport: tcp.dport };
+        let quadruple = Quadruple::new(ip.source, ip.destination, tcp.sport, tcp.dport);
         let held = aged.find(place, quadruple).map_or(FREE, |slot| aged.held[place][slot]);
         self.hit(&flags_name(held, tcp.flags & (FIN | SYN | RST | ACK)));
     }

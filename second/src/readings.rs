@@ -3,8 +3,10 @@
 use crate::faults::{spoil_table, TABLE_FAULTS};
 use crate::gen::generate;
 use crate::random::Random;
+use crate::records::{Records, CLOSING};
 use crate::stream::run;
 use crate::table::Prefix;
+use crate::table_t::table_t;
 use crate::world::draw_table;
 
 fn lines(stream: &[u8]) -> String {
@@ -62,4 +64,19 @@ fn a_generated_stream_is_whole() {
     let lines = lines(&stream);
     assert!(!lines.contains('?') && !lines.contains("dirty"));
     assert!(lines.ends_with(".\n"));
+}
+
+#[test]
+fn what_no_fresh_record_has_is_a_bad_record() {
+    let table = table_t();
+    let bad = |spoil: fn(&mut Records)| {
+        let mut records = Records::empty(0);
+        spoil(&mut records);
+        records.check(&table).is_err()
+    };
+    assert!(!bad(|_| {}));
+    assert!(bad(|records| records.conversations[1][1].age = 1), "a free place of a rule that tracks");
+    assert!(bad(|records| records.conversations[0][7].quadruple.ports = 1), "a place of a rule that does not");
+    assert!(bad(|records| records.conversations[63][0].quadruple.source = 1), "a place without a rule");
+    assert!(bad(|records| records.held[1][0] = CLOSING + 1), "a state that there is not");
 }

@@ -15,16 +15,28 @@ pub const CLOSING: u8 = 3;
 pub struct Quadruple {
     pub source: u32,
     pub destination: u32,
-    pub sport: u16,
-    pub dport: u16,
+    /// The source port above, the destination port below.
+    pub ports: u32,
 }
 
 impl Quadruple {
+    #[inline]
+    pub fn new(source: u32, destination: u32, sport: u16, dport: u16) -> Quadruple {
+        Quadruple { source, destination, ports: u32::from(sport) << 16 | u32::from(dport) }
+    }
+
+    pub fn sport(self) -> u16 {
+        (self.ports >> 16) as u16
+    }
+
+    pub fn dport(self) -> u16 {
+        self.ports as u16
+    }
+
     /// A short mark: equal quadruples have the same, different ones hardly ever.
     #[inline]
     fn mark(self) -> u32 {
-        let ports = u32::from(self.sport) << 16 | u32::from(self.dport);
-        (self.source.rotate_left(16) ^ ports).wrapping_mul(0x9e37_79b9) ^ self.destination
+        (self.source.rotate_left(16) ^ self.ports).wrapping_mul(0x9e37_79b9) ^ self.destination
     }
 }
 
@@ -32,6 +44,15 @@ impl Quadruple {
 pub struct Conversation {
     pub quadruple: Quadruple,
     pub age: u32,
+}
+
+impl Conversation {
+    /// Zero exactly where every field is.
+    #[inline]
+    fn filled(&self) -> u32 {
+        let Quadruple { source, destination, ports } = self.quadruple;
+        source | destination | ports | self.age
+    }
 }
 
 #[derive(Clone, Copy, PartialEq, Eq, Debug, Default)]
@@ -93,7 +114,7 @@ impl Records {
     fn empty_from(&self, count: usize) -> bool {
         let levels = self.levels[count..].iter().fold(0, |any, level| any | level);
         let held = self.held[count..].iter().fold(0, |any, held| any | u64::from_ne_bytes(*held));
-        levels == 0 && held == 0
+        levels == 0 && held == 0 && self.conversations[count..].iter().fold(0, |any, row| any | filled(row)) == 0
     }
 
     #[inline]
@@ -102,7 +123,10 @@ impl Records {
         if level > HIGHEST_LEVEL || (level != 0 && !rule.has(set::SIZE)) {
             return false;
         }
-        self.held[place] == [FREE; PLACES] || self.good_conversations(place, rule)
+        if self.held[place] == [FREE; PLACES] {
+            return filled(&self.conversations[place]) == 0;
+        }
+        self.good_conversations(place, rule)
     }
 
     /// Tracking, places, ages and no quadruple twice, over the places that are held.
@@ -112,14 +136,17 @@ impl Records {
             return false;
         }
         let mut marks = [0; PLACES];
-        let mut bad = false;
+        // what a free place still holds, and a state that there is not
+        let mut left = 0;
+        let mut bad = u64::from_ne_bytes(self.held[place]) & u64::from_ne_bytes([!CLOSING; PLACES]) != 0;
         for slot in 0..PLACES {
             let conversation = &self.conversations[place][slot];
             let held = self.held[place][slot] != FREE;
             bad |= held & ((slot >= usize::from(rule.places)) | (conversation.age >= rule.idle));
+            left |= if held { 0 } else { conversation.filled() };
             marks[slot] = if held { conversation.quadruple.mark() } else { slot as u32 };
         }
-        !bad && !(any_alike(&marks) && self.repeats(place))
+        !bad && left == 0 && !(any_alike(&marks) && self.repeats(place))
     }
 
     /// The exact look, needed only where two marks are alike.
@@ -191,6 +218,13 @@ impl Records {
             }
         }
     }
+}
+
+/// Zero exactly where all eight places are as in a fresh record. Four rows of lanes, so that one OR need not wait for the one before.
+#[inline]
+fn filled(row: &[Conversation; PLACES]) -> u32 {
+    let [a, b, c, d, e, f, g, h] = row.each_ref().map(Conversation::filled);
+    ((a | b) | (c | d)) | ((e | f) | (g | h))
 }
 
 /// Every two of the eight stand at most four apart, going round.

@@ -247,7 +247,7 @@ fn print_conversations(output: &mut impl Write, records: &Records, place: usize)
         }
         let Conversation { quadruple: of, age } = records.conversations[place][slot];
         write!(output, "c {place} {slot} {} {} ", of.source, of.destination)?;
-        writeln!(output, "{} {} {held} {age}", of.sport, of.dport)?;
+        writeln!(output, "{} {} {held} {age}", of.sport(), of.dport())?;
     }
     Ok(())
 }

@@ -131,7 +131,7 @@ fn m7_places_fill_and_idle_out() {
     assert_eq!(bench.verdict(1_000, &third), Verdict::Passed);
     assert_eq!(bench.records.held[1][..2], [OPENING, FREE]);
     let held = bench.records.conversations[1][0];
-    let of_third = Quadruple { source: 0x0a00_0009, destination: 0x0a01_0001, sport: 443, dport: 3 };
+    let of_third = Quadruple::new(0x0a00_0009, 0x0a01_0001, 443, 3);
     assert_eq!(held.quadruple, of_third);
 }
 

@@ -15,11 +15,11 @@ use numbers::wide64;
 use records::Counts;
 use records::Head;
 use records::Places;
-use table::Table;
+use table::words::TableWords;
 
 pub(crate) fn call(
     letter: u8,
-    t: Table,
+    t: &TableWords,
     buf: &mut [u8; 65536],
     span: &mut [usize; 2],
     image: &mut Image,
@@ -59,7 +59,7 @@ fn load(
 }
 
 fn check(
-    t: Table,
+    t: &TableWords,
     head: &Head,
     counts: &Counts,
     places: &Places,
@@ -72,7 +72,7 @@ fn check(
 }
 
 fn fresh(
-    t: Table,
+    t: &TableWords,
     buf: &mut [u8; 65536],
     span: &mut [usize; 2],
     image: &mut Image,
@@ -91,7 +91,7 @@ fn fresh(
 }
 
 fn switch(
-    t: Table,
+    t: &TableWords,
     buf: &mut [u8; 65536],
     span: &mut [usize; 2],
     image: &mut Image,
@@ -111,7 +111,7 @@ fn switch(
 
 // One frame judged many times, at readings that rise by a step.
 fn pace(
-    t: Table,
+    t: &TableWords,
     buf: &mut [u8; 65536],
     span: &mut [usize; 2],
     image: &mut Image,
@@ -145,7 +145,7 @@ fn pace(
 }
 
 fn judge(
-    t: Table,
+    t: &TableWords,
     times: u32,
     step: u64,
     buf: &mut [u8; 65536],
@@ -197,7 +197,7 @@ fn later(reading: u64, step: u64) -> u64 {
 
 // All calls but the last; what is left is the reading of that one.
 fn earlier(
-    t: Table,
+    t: &TableWords,
     image: &Image,
     room: usize,
     length: usize,
@@ -232,7 +232,7 @@ fn earlier(
 
 // The event space is 170 in every byte, so that a byte that was written shows.
 fn judged(
-    t: Table,
+    t: &TableWords,
     image: &Image,
     reading: u64,
     room: usize,

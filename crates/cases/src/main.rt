@@ -10,6 +10,7 @@ use input::Got;
 use records::Counts;
 use records::Head;
 use records::Places;
+use table::words::TableWords;
 
 // The calls one after the other, with the table and the records held from one to the next. Nothing says that an input
 // ends, so the turns are counted down from a number that no run uses up.
@@ -18,7 +19,7 @@ fn run(buf: &mut [u8; 65536], image: &mut Image, out: &mut [u8; 65536], used: &m
     let mut head: Head = [0; 2];
     let mut counts: Counts = [[0; 3]; 65];
     let mut places: Places = [[[0; 5]; 8]; 64];
-    let mut t = image::table_of(image);
+    let mut t: TableWords = [[0; 8]; 73];
     let mut turns = u64::MAX;
     while turns > 0 {
         let Got::Byte(letter) = input::next(buf, &mut span) else {
@@ -26,7 +27,7 @@ fn run(buf: &mut [u8; 65536], image: &mut Image, out: &mut [u8; 65536], used: &m
         };
         if !calls::call(
             letter,
-            t,
+            &t,
             buf,
             &mut span,
             image,
@@ -40,7 +41,7 @@ fn run(buf: &mut [u8; 65536], image: &mut Image, out: &mut [u8; 65536], used: &m
             return;
         }
         if letter == b'T' {
-            t = image::table_of(image);
+            lay::table(image::table_of(image), &mut t);
         }
         turns -= 1;
     }

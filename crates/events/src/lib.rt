@@ -5,6 +5,7 @@ ghost use Prim.Native.Nat.{_/_, _%_, _≤_};
 ghost use lib.ListN.{length, drop};
 ghost use Rattle.numbers.specs.Bytes.{byte};
 ghost use Rattle.layers.specs.Inside.{Inside};
+ghost use Rattle.table.specs.Words.{ruleIn};
 ghost use Rattle.events.specs.Events.{array, numberOf, eventBytes, mismatchOf};
 ghost use Rattle.events.specs.Arrays.{
   lengthOf,
@@ -20,8 +21,9 @@ use layers::Ip;
 use layers::Layers;
 use layers::Someip;
 use layers::Transport;
-use table::Rule;
 use table::settings::is_tcp;
+use table::words;
+use table::words::RuleWords;
 
 // The events of 001 that a verdict can give.
 pub enum Event {
@@ -228,8 +230,8 @@ pub fn write(e: Event, id: u16, frame: &[u8], l: Layers, space: &mut [u8]) -> us
 }
 
 // The event of a rule whose next layer does not match.
-pub fn mismatch(r: Rule, layer: usize) -> Event
-    ensures { λ e. ⌜ e ≡ mismatchOf r layer ⌝ }
+pub fn mismatch(r: &RuleWords, layer: usize) -> Event
+    ensures { λ e. ⌜ e ≡ mismatchOf (ruleIn (now (r .entry))) layer ⌝ }
 {
     if layer == 0 {
         return Event::LinkMismatch;
@@ -238,7 +240,7 @@ pub fn mismatch(r: Rule, layer: usize) -> Event
         return Event::Ipv4Mismatch;
     }
     if layer == 2 {
-        let transport = r.transport;
+        let transport = words::transport(r);
         let kind = transport.kind;
         if is_tcp(kind) {
             return Event::TcpMismatch;

@@ -4,6 +4,7 @@ ghost use mathlib.Core.Bool.{true};
 ghost use Rattle.layers.specs.Layers.{shownOf};
 ghost use Rattle.table.specs.declared.Fault.the-variants as fault;
 ghost use Rattle.table.specs.Table.{faultOf};
+ghost use Rattle.table.specs.Words.{tableIn};
 ghost use Rattle.records.specs.Records.{recordsOf, words};
 ghost use Rattle.records.specs.Good.{recordsGood};
 ghost use Rattle.firewall.specs.Firewall.{
@@ -29,8 +30,9 @@ use records::shape::shape;
 use steps::Answer;
 use steps::step;
 use table::Fault;
-use table::Table;
 use table::faults::fault;
+use table::words::TableWords;
+use table::words::statecount;
 
 pub enum Checked {
     Refused(Refusal),
@@ -53,8 +55,8 @@ pub enum Judged {
 }
 
 // Is the table good, and then the record?
-pub fn check(t: Table, head: &Head, counts: &Counts, places: &Places) -> Checked
-    ensures { λ r. ⌜ saidChecked r ≡ checkOf t (words (now (head .entry)) (now (counts .entry)) (now (places .entry))) ⌝ }
+pub fn check(t: &TableWords, head: &Head, counts: &Counts, places: &Places) -> Checked
+    ensures { λ r. ⌜ saidChecked r ≡ checkOf (tableIn (now (t .entry))) (words (now (head .entry)) (now (counts .entry)) (now (places .entry))) ⌝ }
 {
     let f = fault(t);
     let Fault::At(place) = f else {
@@ -68,13 +70,13 @@ pub fn check(t: Table, head: &Head, counts: &Counts, places: &Places) -> Checked
 
 // A fresh record: state 0, all else empty or zero.
 pub fn fresh(
-    t: Table,
+    t: &TableWords,
     reading: u64,
     head: &mut Head,
     counts: &mut Counts,
     places: &mut Places,
 ) -> Started
-    ensures { λ r. ⌜ record { said = saidStarted r; words = words (now (head .exit)) (now (counts .exit)) (now (places .exit)) } ≡ startOf t reading (words (now (head .entry)) (now (counts .entry)) (now (places .entry))) ⌝ }
+    ensures { λ r. ⌜ record { said = saidStarted r; words = words (now (head .exit)) (now (counts .exit)) (now (places .exit)) } ≡ startOf (tableIn (now (t .entry))) reading (words (now (head .entry)) (now (counts .entry)) (now (places .entry))) ⌝ }
 {
     let f = fault(t);
     let Fault::At(place) = f else {
@@ -86,12 +88,18 @@ pub fn fresh(
 }
 
 // A switch of vehicle state changes only the active state.
-pub fn switch(t: Table, state: usize, head: &mut Head, counts: &Counts, places: &Places) -> Switched
-    ensures { λ r. ⌜ record { said = saidSwitched r; words = words (now (head .exit)) (now (counts .entry)) (now (places .entry)) } ≡ switchOf t state (words (now (head .entry)) (now (counts .entry)) (now (places .entry))) ⌝ }
+pub fn switch(
+    t: &TableWords,
+    state: usize,
+    head: &mut Head,
+    counts: &Counts,
+    places: &Places,
+) -> Switched
+    ensures { λ r. ⌜ record { said = saidSwitched r; words = words (now (head .exit)) (now (counts .entry)) (now (places .entry)) } ≡ switchOf (tableIn (now (t .entry))) state (words (now (head .entry)) (now (counts .entry)) (now (places .entry))) ⌝ }
 {
     let checked = check(t, head, counts, places);
     let Checked::Refused(refusal) = checked else {
-        if state < t.statecount {
+        if state < statecount(t) {
             shape(*head, *counts, *places);
             records::fresh::switch_to(state as u64, head);
             return Switched::Done;
@@ -103,7 +111,7 @@ pub fn switch(t: Table, state: usize, head: &mut Head, counts: &Counts, places: 
 
 // A frame judged by a table and a record that were checked.
 fn judge_frame(
-    t: Table,
+    t: &TableWords,
     head: &mut Head,
     counts: &mut Counts,
     places: &mut Places,
@@ -111,9 +119,9 @@ fn judge_frame(
     reading: u64,
     space: &mut [u8],
 ) -> Judged
-    requires { ⌜ faultOf t ≡ fault.Good ⌝ }
-    requires { ⌜ recordsGood t (recordsOf (words (now head) (now counts) (now places))) ≡ true ⌝ }
-    ensures { λ r. ⌜ record { said = saidJudged r; words = words (now (head .exit)) (now (counts .exit)) (now (places .exit)); space = now (space .exit) } ≡ afterFrame t (words (now (head .entry)) (now (counts .entry)) (now (places .entry))) (record { reading = reading; bytes = now (frame .entry) }) (now (space .entry)) (shownOf (now (frame .entry))) ⌝ }
+    requires { ⌜ faultOf (tableIn (now t)) ≡ fault.Good ⌝ }
+    requires { ⌜ recordsGood (tableIn (now t)) (recordsOf (words (now head) (now counts) (now places))) ≡ true ⌝ }
+    ensures { λ r. ⌜ record { said = saidJudged r; words = words (now (head .exit)) (now (counts .exit)) (now (places .exit)); space = now (space .exit) } ≡ afterFrame (tableIn (now (t .entry))) (words (now (head .entry)) (now (counts .entry)) (now (places .entry))) (record { reading = reading; bytes = now (frame .entry) }) (now (space .entry)) (shownOf (now (frame .entry))) ⌝ }
 {
     let shown = layers::read(frame);
     let Shown::Shows(l) = shown else {
@@ -127,7 +135,7 @@ fn judge_frame(
 
 // One frame: its verdict, the deciding rule's id and the event's length.
 pub fn judge(
-    t: Table,
+    t: &TableWords,
     head: &mut Head,
     counts: &mut Counts,
     places: &mut Places,
@@ -135,7 +143,7 @@ pub fn judge(
     reading: u64,
     space: &mut [u8],
 ) -> Judged
-    ensures { λ r. ⌜ record { said = saidJudged r; words = words (now (head .exit)) (now (counts .exit)) (now (places .exit)); space = now (space .exit) } ≡ judgeOf t (words (now (head .entry)) (now (counts .entry)) (now (places .entry))) (record { reading = reading; bytes = now (frame .entry) }) (now (space .entry)) ⌝ }
+    ensures { λ r. ⌜ record { said = saidJudged r; words = words (now (head .exit)) (now (counts .exit)) (now (places .exit)); space = now (space .exit) } ≡ judgeOf (tableIn (now (t .entry))) (words (now (head .entry)) (now (counts .entry)) (now (places .entry))) (record { reading = reading; bytes = now (frame .entry) }) (now (space .entry)) ⌝ }
 {
     let checked = check(t, head, counts, places);
     let Checked::Refused(refusal) = checked else {

@@ -1,14 +1,14 @@
 -- Who decides: the search for the first active rule that matches, and what its outcome tells.
 -- Assumes nothing.
-use Prim.Native.Nat.{ℕ, _+_, _-_, _<_, _≤_}
-use mathlib.Core.Path.{_≡_, refl, sym, _∙_}
+use Prim.Native.Nat.{ℕ, _<_, _≤_}
+use mathlib.Core.Path.{_≡_, refl}
 use mathlib.Core.List.{List}
-use mathlib.Core.Bool.{Bool, true, false, _&&_, cond, false≢true}
+use mathlib.Core.Bool.{Bool, true, false, cond, false≢true}
 use native.Mathlib.Omega.{arith}
-use borrow.Author.Tests.{lt-ltb, le-ltb, ltb-true, ltb-false}
+use borrow.Author.Tests.{ltb-true, ltb-false}
 use lib.Dec.{ltb}
-use Rattle.numbers.specs.Lists.{every, firstFrom, first}
-use Rattle.numbers.proofs.Lists.{and-both, every-at, first-here, first-next, first-none, first-le, first-holds, first-before}
+use Rattle.numbers.specs.Lists.{first}
+use Rattle.numbers.proofs.Lists.{and-both, every-at, first-le, first-holds, first-before}
 use Rattle.layers.specs.declared.Segment.{Segment}
 use Rattle.layers.specs.declared.Transport.{Transport}
 use Rattle.layers.specs.declared.Transport.the-variants as transport
@@ -24,35 +24,6 @@ use Rattle.table.specs.Table.{ruleAt, active, isTcp}
 use Rattle.matching.specs.Matching.{transportMatches, layerTests, ruleMatches, decides, deciderOf}
 
 module _ (t : Table) (state : ℕ) (s : List ℕ) (l : Layers) where
-  -- a loop that has passed i places finds the decider there
-  pub decider-here :
-      (i : ℕ) → i < t .rulecount
-      → firstFrom (decides t state s l) i (t .rulecount - i) ≡ first (decides t state s l) (t .rulecount)
-      → true ≡ (active t state i && every (layerTests (ruleAt t i) s l)) → i ≡ deciderOf t state s l
-  unfolding deciderOf decides ruleMatches
-  decider-here i h f e =
-      let g : first (decides t state s l) (t .rulecount) ≡ i = sym f ∙ first-here (decides t state s l) (t .rulecount) i h (sym e) in
-      rw (g, lt-ltb i (t .rulecount) h)
-
-  -- or not
-  pub decider-next :
-      (i : ℕ) → i < t .rulecount
-      → firstFrom (decides t state s l) i (t .rulecount - i) ≡ first (decides t state s l) (t .rulecount)
-      → false ≡ (active t state i && every (layerTests (ruleAt t i) s l))
-      → firstFrom (decides t state s l) (i + 1) (t .rulecount - (i + 1)) ≡ first (decides t state s l) (t .rulecount)
-  unfolding decides ruleMatches
-  decider-next i h f e = sym (first-next (decides t state s l) (t .rulecount) i h (sym e)) ∙ f
-
-  -- or nowhere
-  pub decider-none :
-      (i : ℕ) → t .rulecount ≤ i
-      → firstFrom (decides t state s l) i (t .rulecount - i) ≡ first (decides t state s l) (t .rulecount)
-      → 64 ≡ deciderOf t state s l
-  unfolding deciderOf
-  decider-none i h f =
-      let g : first (decides t state s l) (t .rulecount) ≡ i = sym f ∙ first-none (decides t state s l) (t .rulecount) i h in
-      rw (g, le-ltb i (t .rulecount) h)
-
   -- a rule that decides is active and matches, and no earlier one does
   abbrev pub Decides : ℕ → Type 0
   Decides d =

@@ -3,7 +3,7 @@
 use Prim.Native.Nat.{ℕ, zero, suc, _+_, _-_, _<_, _≤_, max}
 use mathlib.Core.Path.{_≡_, refl, sym, subst}
 use mathlib.Core.List.{List}
-use mathlib.Core.Bool.{Bool, true, false}
+use mathlib.Core.Bool.{Bool, true, false, cond}
 use native.Mathlib.Nat.{le-of-lt, max-eq-left, max-eq-right}
 use native.Mathlib.Numerals.{add-one}
 use native.Mathlib.Omega.{arith}
@@ -14,11 +14,11 @@ use Rattle.numbers.proofs.Lists.{cond-both, first-is, last-or-below}
 use Rattle.layers.specs.declared.Layers.{Layers}
 use Rattle.table.specs.declared.Table.{Table}
 use Rattle.table.specs.Table.{ruleAt, active}
-use Rattle.matching.specs.Matching.{decides, deciderOf}
+use Rattle.matching.specs.Matching.{ruleMatches, decides, deciderOf}
 use Rattle.matching.specs.Best.{scoreOf, greatest, bestOf}
 use Rattle.matching.specs.declared.Best.{Best}
-use Rattle.matching.proofs.Deciders.{decider-default}
-use Rattle.matching.proofs.Leading.{leading-small, leading-short}
+use Rattle.matching.proofs.Deciders.{decider-is, decider-default, decider-small}
+use Rattle.matching.proofs.Leading.{leading-small, leading-short, leading-full}
 
 -- of the places below i, `place` is the first with the greatest score, 64 where every score is 0
 pub record Fits (f : ℕ → ℕ) (i place most : ℕ) : Type 0 where
@@ -147,7 +147,7 @@ module _ (t : Table) (state : ℕ) (s : List ℕ) (l : Layers) where
           let q = best-some ne in
           subst P (sym (q .2)) (b (q .0) (greatest (scoreOf t state s l) (t .rulecount)) (omega (arith, ne)) (q .1))
 
-  score-small : (i : ℕ) → scoreOf t state s l i ≤ 5
+  pub score-small : (i : ℕ) → scoreOf t state s l i ≤ 5
   unfolding scoreOf
   score-small i = cond-both (λ (n : ℕ). n ≤ 5) (active t state i) _ _ (λ e. omega (arith, leading-small (ruleAt t i) s l)) (λ e. omega arith)
 
@@ -155,6 +155,11 @@ module _ (t : Table) (state : ℕ) (s : List ℕ) (l : Layers) where
   unfolding scoreOf decides
   score-open i e =
       cond-both (λ (n : ℕ). n ≤ 4) (active t state i) _ _ (λ f. omega (arith, leading-short (ruleAt t i) s l (rw f at e))) (λ f. omega arith)
+
+  -- a rule that matches has the greatest score there is
+  score-matches : (i : ℕ) → active t state i ≡ true → ruleMatches (ruleAt t i) s l ≡ true → scoreOf t state s l i ≡ 5
+  unfolding scoreOf
+  score-matches i e h = rw (e, leading-full (ruleAt t i) s l h)
 
   score-active : (i : ℕ) → 0 < scoreOf t state s l i → active t state i ≡ true
   unfolding scoreOf
@@ -177,3 +182,30 @@ module _ (t : Table) (state : ℕ) (s : List ℕ) (l : Layers) where
   best-active =
       best-both (λ (b : Best). b .place < 64 → (b .place < t .rulecount) × (active t state (b .place) ≡ true)) (λ k. absurd (omega arith))
       (λ place most h q k. (q .inside h, score-active place (omega (arith, q .held h))))
+
+  -- the first place with the score of a rule that matches fits best: none is greater
+  pub best-full :
+      (i : ℕ) → i < t .rulecount → scoreOf t state s l i ≡ 5 → ((j : ℕ) → j < i → scoreOf t state s l j < 5)
+      → _≡_ {A = Best} (record { place = i; layer = 4 }) (bestOf t state s l)
+  unfolding bestOf
+  best-full i h e b =
+      let q = fits (scoreOf t state s l) (t .rulecount) in
+      let k : 5 ≤ greatest (scoreOf t state s l) (t .rulecount) = omega (arith, q .1 .below i h) in
+      let m : greatest (scoreOf t state s l) (t .rulecount) ≡ 5 = omega (arith, q .1 .held (omega arith), score-small (q .0)) in
+      let p : first (λ j. eqb (scoreOf t state s l j) 5) (t .rulecount) ≡ i =
+      first-is (λ j. eqb (scoreOf t state s l j) 5) (t .rulecount) i h (eq-eqb (scoreOf t state s l i) 5 e)
+      (λ j n. ne-eqb (scoreOf t state s l j) 5 (λ f. absurd (omega (arith, b j n, f)))) in
+      rw (m, p)
+
+  -- the best fit decides where all four layers match
+  pub best-decides : t .rulecount ≤ 64 → cond (eqb (bestOf t state s l .layer) 4) (bestOf t state s l .place) 64 ≡ deciderOf t state s l
+  best-decides small = go (eqb (deciderOf t state s l) 64) refl
+    where
+      go : (b : Bool) → eqb (deciderOf t state s l) 64 ≡ b → cond (eqb (bestOf t state s l .layer) 4) (bestOf t state s l .place) 64 ≡ deciderOf t state s l
+      go true e =
+          let d = eqb-true (deciderOf t state s l) 64 e in
+          rw (d, ne-eqb (bestOf t state s l .layer) 4 (λ f. absurd (omega (arith, f, best-open small d))))
+      go false e =
+          let q = decider-is t state s l (deciderOf t state s l) refl (omega (arith, eqb-false (deciderOf t state s l) 64 e, decider-small t state s l small)) in
+          rw (← best-full (deciderOf t state s l) (q .0) (score-matches (deciderOf t state s l) (q .1) (q .2))
+          (λ j h. omega (arith, score-open j (q .3 j h))))

@@ -1,53 +1,22 @@
 // Who decides, and who fits best.
 ghost use mathlib.Core.Path.{_≡_};
 ghost use mathlib.Core.Bool.{cond};
+ghost use lib.Dec.{eqb};
 ghost use Prim.Native.Nat.{suc, _<_, _≤_};
 ghost use Rattle.table.specs.Table.{marked as markedAt};
-ghost use Rattle.matching.specs.Matching.{layerTests, deciderOf};
+ghost use Rattle.table.specs.Words.{ruleIn, tableIn};
+ghost use Rattle.matching.specs.Matching.{layerTests};
 ghost use Rattle.matching.specs.Best.{leading, bestOf};
 use crate::rules::*;
 use crate::*;
 use layers::*;
 use table::settings::*;
-use table::*;
-
-// The first active rule that matches, or 64. Each layer reads the rule anew: what is behind the first layer that does not match is never loaded.
-pub fn decider(t: Table, state: usize, s: &[u8], l: Layers) -> usize
-    requires { ⌜ (state < 8) × (t .rulecount ≤ 64) ⌝ }
-    ensures { λ r. ⌜ r ≡ deciderOf t state (now (s .entry)) l ⌝ }
-{
-    let active = t.states[state];
-    let marks = active.marks;
-    let count = t.rulecount;
-    let ip = l.ip;
-    let transport = l.transport;
-    let someip = l.someip;
-    let mut i = 0;
-    while i < count {
-        if marked(marks, i) {
-            let a = t.rules[i];
-            if link_matches(a.link, l.link) {
-                let b = t.rules[i];
-                if ipv4_matches(b.ipv4, ip) {
-                    let c = t.rules[i];
-                    if transport_matches(c.transport, transport) {
-                        let d = t.rules[i];
-                        if someip_matches(d.someip, s, someip) {
-                            return i;
-                        }
-                    }
-                }
-            }
-        }
-        i += 1;
-    }
-    64
-}
+use table::words::*;
 
 // One more than the layers matched of an active rule, and 0 for one that is not active.
-pub(crate) fn score(r: Rule, marks: u64, i: usize, s: &[u8], l: Layers) -> usize
+pub(crate) fn score(r: &RuleWords, marks: u64, i: usize, s: &[u8], l: Layers) -> usize
     requires { ⌜ i < 64 ⌝ }
-    ensures { λ n. ⌜ n ≡ cond (markedAt marks i) (suc (leading (layerTests r (now (s .entry)) l))) 0 ⌝ }
+    ensures { λ n. ⌜ n ≡ cond (markedAt marks i) (suc (leading (layerTests (ruleIn (now (r .entry))) (now (s .entry)) l))) 0 ⌝ }
 {
     if !marked(marks, i) {
         return 0;
@@ -55,19 +24,22 @@ pub(crate) fn score(r: Rule, marks: u64, i: usize, s: &[u8], l: Layers) -> usize
     layers_matched(r, s, l) + 1
 }
 
-// The first of the active rules with the greatest score.
-pub fn best_fit(t: Table, state: usize, s: &[u8], l: Layers) -> Best
-    requires { ⌜ (state < 8) × (t .rulecount ≤ 64) ⌝ }
-    ensures { λ r. ⌜ r ≡ bestOf t state (now (s .entry)) l ⌝ }
+// The first of the active rules with the greatest score. None is greater than that of a rule that matches, so none behind one is looked at.
+pub fn best_fit(t: &TableWords, state: usize, s: &[u8], l: Layers) -> Best
+    requires { ⌜ (state < 8) × (tableIn (now t) .rulecount ≤ 64) ⌝ }
+    ensures { λ r. ⌜ r ≡ bestOf (tableIn (now (t .entry))) state (now (s .entry)) l ⌝ }
 {
-    let active = t.states[state];
-    let marks = active.marks;
-    let count = t.rulecount;
+    rows(*t);
+    let marks = marks_of(t, state);
+    let count = rulecount(t);
     let mut place = 64;
     let mut most = 0;
     let mut i = 0;
     while i < count {
-        let n = score(t.rules[i], marks, i, s, l);
+        let n = score(&t[i], marks, i, s, l);
+        if n == 5 {
+            return Best { place: i, layer: 4 };
+        }
         if most < n {
             place = i;
             most = n;
@@ -84,4 +56,11 @@ pub fn best_fit(t: Table, state: usize, s: &[u8], l: Layers) -> Best
         place: place,
         layer: most - 1,
     }
+}
+
+// The rule that decides, or 64 for the default: the best fit decides where all four layers match.
+pub fn decider(best: Best) -> usize
+    ensures { λ d. ⌜ d ≡ cond (eqb (best .layer) 4) (best .place) 64 ⌝ }
+{
+    if best.layer == 4 { best.place } else { 64 }
 }

@@ -3,9 +3,12 @@ ghost use mathlib.Core.Path.{_≡_};
 ghost use Rattle.numbers.specs.Lists.{every};
 ghost use Rattle.matching.specs.Matching.{tagTests, linkMatches, ipv4Matches, portsAgree, transportMatches, someipMatches, layerTests};
 ghost use Rattle.matching.specs.Best.{leading};
+ghost use Rattle.table.specs.Words.{ruleIn};
 use crate::agrees::*;
 use layers::*;
 use table::settings::*;
+use table::words;
+use table::words::RuleWords;
 use table::*;
 
 // VLAN settings never agree with an untagged frame.
@@ -109,22 +112,22 @@ pub(crate) fn someip_matches(r: SomeipSettings, s: &[u8], x: Someip) -> bool
 }
 
 // The layers that match, from link upward to the first that does not.
-pub(crate) fn layers_matched(r: Rule, s: &[u8], l: Layers) -> usize
-    ensures { λ n. ⌜ n ≡ leading (layerTests r (now (s .entry)) l) ⌝ }
+pub(crate) fn layers_matched(r: &RuleWords, s: &[u8], l: Layers) -> usize
+    ensures { λ n. ⌜ n ≡ leading (layerTests (ruleIn (now (r .entry))) (now (s .entry)) l) ⌝ }
 {
     let ip = l.ip;
     let transport = l.transport;
     let someip = l.someip;
-    if !link_matches(r.link, l.link) {
+    if !link_matches(words::link(r), l.link) {
         return 0;
     }
-    if !ipv4_matches(r.ipv4, ip) {
+    if !ipv4_matches(words::ipv4(r), ip) {
         return 1;
     }
-    if !transport_matches(r.transport, transport) {
+    if !transport_matches(words::transport(r), transport) {
         return 2;
     }
-    if !someip_matches(r.someip, s, someip) {
+    if !someip_matches(words::someip(r), s, someip) {
         return 3;
     }
     4

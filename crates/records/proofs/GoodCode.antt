@@ -1,10 +1,11 @@
 -- Laws of good records in the words of the code's branches.
 -- Assumes nothing.
-use Prim.Native.Nat.{ℕ, _+_, _<_, _≤_}
-use mathlib.Core.Path.{_≡_, refl, sym, ap, subst, _∙_}
+use Prim.Native.Nat.{ℕ, _+_, _<_, _≤_, min}
+use mathlib.Core.Path.{_≡_, refl, sym, ap, ap₂, subst, _∙_}
 use mathlib.Core.Bool.{Bool, true, false, cond, not, _&&_, _||_, false≢true}
 use mathlib.Core.List.{List, [], map}
-use lib.ListN.{length, getD, length-take, List·getD-eq-default}
+use lib.ListN.{length, getD, take, length-take, length-map, List·getD-eq-default}
+use lib.Bits.{bitOr, or-add-and, and-le-l, and-le-r}
 use lib.Dec.{ltb, leb, eqb}
 use native.Mathlib.Omega.{arith}
 use native.Mathlib.Numerals.{add-one}
@@ -18,6 +19,8 @@ use Rattle.table.specs.declared.Bucket.the-variants as bucket
 use Rattle.table.specs.declared.Tracking.{Tracking}
 use Rattle.table.specs.Table.{noRule, ruleAt, bucketOf, trackingOf}
 use Rattle.table.specs.Table as table
+use Rattle.table.specs.Words.{ruleIn, tableIn}
+use Rattle.table.proofs.Rows.{rule-at}
 use Rattle.records.specs.Records.{Place, free, RuleRecord, noRecord, placeOf, ruleOf, rulesOf, recordsOf, words}
 use Rattle.records.specs.Rule.{isFree, holds}
 use Rattle.records.specs.Good.{
@@ -64,14 +67,27 @@ swap-held false false false y z e = refl
 
 -- ---- one place
 
+-- no bit of two words is set
+pub or-zero : (x y : ℕ) → eqb (bitOr x y) 0 ≡ (eqb x 0 && eqb y 0)
+or-zero x y =
+    both-ways (eqb (bitOr x y) 0) (eqb x 0 && eqb y 0)
+    (λ e. let z = eqb-true (bitOr x y) 0 e in
+    and-true-true (eq-eqb x 0 (omega (arith, z, or-add-and x y, and-le-r x y))) (eq-eqb y 0 (omega (arith, z, or-add-and x y, and-le-l x y))))
+    (λ e. let z = and-both (eqb x 0) (eqb y 0) e in
+    eq-eqb (bitOr x y) 0 (omega (arith, eqb-true x 0 (z .0), eqb-true y 0 (z .1), or-add-and x y)))
+
 module _ (w : List ℕ) where
   -- as in a fresh record: five words are zero
-  pub fresh-words : ((((eqb (getD w 0 0) 0 && eqb (getD w 1 0) 0) && eqb (getD w 2 0) 0) && eqb (getD w 3 0) 0) && eqb (getD w 4 0) 0) ≡ (isFree (placeOf w) && clean (placeOf w))
+  fresh-words : ((((eqb (getD w 0 0) 0 && eqb (getD w 1 0) 0) && eqb (getD w 2 0) 0) && eqb (getD w 3 0) 0) && eqb (getD w 4 0) 0) ≡ (isFree (placeOf w) && clean (placeOf w))
   fresh-words = by-test (eqb (getD w 0 0) 0) (λ e. yes e (eqb-true (getD w 0 0) 0 e)) (λ e. rw e)
     where
       yes : eqb (getD w 0 0) 0 ≡ true → getD w 0 0 ≡ 0
           → ((((eqb (getD w 0 0) 0 && eqb (getD w 1 0) 0) && eqb (getD w 2 0) 0) && eqb (getD w 3 0) 0) && eqb (getD w 4 0) 0) ≡ (isFree (placeOf w) && clean (placeOf w))
       yes e z = rw z (and-four (eqb (getD w 1 0) 0) (eqb (getD w 2 0) 0) (eqb (getD w 3 0) 0) (eqb (getD w 4 0) 0))
+
+  -- and so is their OR
+  pub filled-words : eqb (bitOr (bitOr (bitOr (bitOr (getD w 0 0) (getD w 1 0)) (getD w 2 0)) (getD w 3 0)) (getD w 4 0)) 0 ≡ (isFree (placeOf w) && clean (placeOf w))
+  filled-words = simp or-zero fresh-words
 
   pub free-good : (is : Bool) (limit : ℕ) → getD w 0 0 ≡ 0
       → (isFree (placeOf w) && clean (placeOf w)) ≡ (clean (placeOf w) && (isFree (placeOf w) || (is && ltb (placeOf w .age) limit)))
@@ -245,12 +261,18 @@ rule-is t i =
 abbrev pub goodAt : Table → List (List ℕ) → List (List (List ℕ)) → ℕ → Bool
 goodAt t cs ps i = recordGood (ruleOfRecord t i) (getD (rulesOf cs ps) i noRecord)
 
-pub rules-good : (t : Table) (cs : List (List ℕ)) (ps : List (List (List ℕ))) (i : ℕ) (b : Bool) → i < length cs
-    → b ≡ recordGood (cond (ltb i (t .rulecount)) (ruleAt t i) noRule) (ruleOf (getD cs i []) (getD ps i [])) → b ≡ goodAt t cs ps i
-rules-good t cs ps i b h e =
+-- the row at i, with the count that the code read
+pub rules-good : (t cs : List (List ℕ)) (ps : List (List (List ℕ))) (n i : ℕ) (b : Bool) → n ≡ tableIn t .rulecount → i < 64 → i < length cs
+    → b ≡ recordGood (cond (ltb i n) (ruleIn (getD t i [])) noRule) (ruleOf (getD cs i []) (getD ps i [])) → b ≡ goodAt (tableIn t) cs ps i
+rules-good t cs ps n i b k m h e =
     e
-    ∙ ap (λ (r : Rule). recordGood r (ruleOf (getD cs i []) (getD ps i []))) (rule-is t i)
-    ∙ ap (recordGood (ruleOfRecord t i)) (sym (rules-at cs ps i h))
+    ∙ ap (λ (r : Rule). recordGood r (ruleOf (getD cs i []) (getD ps i [])))
+    (ap₂ (λ (n : ℕ) (r : Rule). cond (ltb i n) r noRule) k (sym (rule-at t i m)) ∙ rule-is (tableIn t) i)
+    ∙ ap (recordGood (ruleOfRecord (tableIn t) i)) (sym (rules-at cs ps i h))
+
+-- a table's words have 64 rules
+pub rules-64 : (t : List (List ℕ)) → length t ≡ 73 → length (tableIn t .rules) ≡ 64
+rules-64 t e = length-map (take 64 t) ruleIn ∙ length-take 64 t ∙ ap (min 64) e
 
 -- the active state, the rules, and the default
 pub all-is : (t : Table) (h : List ℕ) (cs : List (List ℕ)) (ps : List (List (List ℕ))) (a b c : Bool) → length (t .rules) ≡ 64 → length cs ≡ 65 → length ps ≡ 64

@@ -4,6 +4,7 @@ ghost use mathlib.Core.List.{map, []};
 ghost use Prim.Native.Nat.{_<_, _≤_};
 ghost use lib.ListN.{getD};
 ghost use Rattle.table.specs.Table.{ruleAt, bucketOf, trackingOf};
+ghost use Rattle.table.specs.Words.{ruleIn, tableIn};
 ghost use Rattle.records.specs.Records.{placeOf, ruleOf, recordsOf, words};
 ghost use Rattle.records.specs.Rule.{decided, reacted, trackedAs, reactedAs};
 ghost use Rattle.records.specs.Step.{defaultVerdict, defaulted, reaction, acted};
@@ -15,18 +16,21 @@ use crate::verdict::Verdict;
 use crate::*;
 use table::Action;
 use table::Bucket;
-use table::Rule;
-use table::Table;
 use table::Tracking;
-use table::settings::bucket;
-use table::settings::tracking;
+use table::words;
+use table::words::RuleWords;
+use table::words::TableWords;
+use table::words::bucket;
+use table::words::default_of;
+use table::words::rule_action;
+use table::words::tracking;
 
 // Step 4, at the level raised.
-fn decide(r: Rule, b: Bucket, g: Segment, level: u32, ps: &mut RowWords) -> Verdict
-    requires { ⌜ (b ≡ bucketOf r) × (placesIn (trackingOf r) ≤ 8) ⌝ }
-    ensures { λ v. ⌜ trackedAs (v .number) (now (ps .exit)) ≡ decided r g level (map placeOf (now (ps .entry))) ⌝ }
+fn decide(r: &RuleWords, b: Bucket, g: Segment, level: u32, ps: &mut RowWords) -> Verdict
+    requires { ⌜ (b ≡ bucketOf (ruleIn (now r))) × (placesIn (trackingOf (ruleIn (now r))) ≤ 8) ⌝ }
+    ensures { λ v. ⌜ trackedAs (v .number) (now (ps .exit)) ≡ decided (ruleIn (now (r .entry))) g level (map placeOf (now (ps .entry))) ⌝ }
 {
-    let action = r.action;
+    let action = rule_action(r);
     match action {
         Action::Block => Verdict::blocked_by_rule(),
         Action::Allow => {
@@ -42,9 +46,9 @@ fn decide(r: Rule, b: Bucket, g: Segment, level: u32, ps: &mut RowWords) -> Verd
     }
 }
 
-fn react(r: Rule, g: Segment, c: &mut CountWords, ps: &mut RowWords) -> Verdict
-    requires { ⌜ placesIn (trackingOf r) ≤ 8 ⌝ }
-    ensures { λ v. ⌜ reactedAs (v .number) (now (c .exit)) (now (ps .exit)) ≡ reacted r g (ruleOf (now (c .entry)) (now (ps .entry))) ⌝ }
+fn react(r: &RuleWords, g: Segment, c: &mut CountWords, ps: &mut RowWords) -> Verdict
+    requires { ⌜ placesIn (trackingOf (ruleIn (now r))) ≤ 8 ⌝ }
+    ensures { λ v. ⌜ reactedAs (v .number) (now (c .exit)) (now (ps .exit)) ≡ reacted (ruleIn (now (r .entry))) g (ruleOf (now (c .entry)) (now (ps .entry))) ⌝ }
 {
     let b = bucket(r);
     let level = raise(b, c[LEVEL]);
@@ -72,24 +76,23 @@ fn default_verdict(a: Action) -> Verdict
 
 // Steps 3 to 5 of the decider at d.
 pub fn act(
-    t: Table,
+    t: &TableWords,
     g: Segment,
     d: usize,
     head: &Head,
     counts: &mut Counts,
     places: &mut Places,
 ) -> Verdict
-    requires { ⌜ (d ≤ 64) × (getD (now head) 1 0 < 8) × (d < 64 → placesIn (trackingOf (ruleAt t d)) ≤ 8) ⌝ }
-    ensures { λ v. ⌜ (v .number ≡ reaction t g d (recordsOf (words (now (head .entry)) (now (counts .entry)) (now (places .entry)))) .verdict) × (recordsOf (words (now (head .entry)) (now (counts .exit)) (now (places .exit))) ≡ acted t g d (recordsOf (words (now (head .entry)) (now (counts .entry)) (now (places .entry))))) ⌝ }
+    requires { ⌜ (d ≤ 64) × (getD (now head) 1 0 < 8) × (d < 64 → placesIn (trackingOf (ruleAt (tableIn (now t)) d)) ≤ 8) ⌝ }
+    ensures { λ v. ⌜ (v .number ≡ reaction (tableIn (now (t .entry))) g d (recordsOf (words (now (head .entry)) (now (counts .entry)) (now (places .entry)))) .verdict) × (recordsOf (words (now (head .entry)) (now (counts .exit)) (now (places .exit))) ≡ acted (tableIn (now (t .entry))) g d (recordsOf (words (now (head .entry)) (now (counts .entry)) (now (places .entry))))) ⌝ }
 {
     rows(*counts, *places);
+    words::rows(*t);
     if d < DEFAULT {
-        let r = t.rules[d];
-        react(r, g, &mut counts[d], &mut places[d])
+        react(&t[d], g, &mut counts[d], &mut places[d])
     } else {
         let k = head[ACTIVE] as usize;
-        let s = t.states[k];
-        let a = s.default;
+        let a = default_of(t, k);
         fall_back(a, &mut counts[DEFAULT])
     }
 }

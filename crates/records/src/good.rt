@@ -7,6 +7,7 @@ ghost use lib.ListN.{getD};
 ghost use lib.Dec.{ltb, leb, eqb};
 ghost use Rattle.numbers.specs.Lists.{every, allBelow};
 ghost use Rattle.table.specs.Table.{noRule};
+ghost use Rattle.table.specs.Words.{ruleIn, tableIn};
 ghost use Rattle.records.specs.Records.{placeOf, ruleOf, rulesOf, recordsOf, noRecord, words};
 ghost use Rattle.records.specs.Rule.{isFree};
 ghost use Rattle.records.specs.Good.{clean, repeats, hasBucket, placesTests, recordGood, ruleOfRecord, recordsGood};
@@ -15,17 +16,19 @@ use crate::track::is_held_by;
 use crate::*;
 use table::Bucket;
 use table::Room;
-use table::Rule;
-use table::Table;
 use table::Tracking;
-use table::settings::bucket;
-use table::settings::tracking;
+use table::words;
+use table::words::RuleWords;
+use table::words::TableWords;
+use table::words::bucket;
+use table::words::tracking;
 
-// As in a fresh record.
-fn is_fresh(p: &PlaceWords) -> bool
-    ensures { λ r. ⌜ r ≡ (isFree (placeOf (now (p .entry))) && clean (placeOf (now (p .entry)))) ⌝ }
+// All words in one: zero where the place is as in a fresh record, and only there.
+fn filled(p: &PlaceWords) -> u32
+    ensures { λ r. ⌜ eqb r 0 ≡ (isFree (placeOf (now (p .entry))) && clean (placeOf (now (p .entry)))) ⌝ }
 {
-    (p[STATE] == 0) & (p[SOURCE] == 0) & (p[DESTINATION] == 0) & (p[PORTS] == 0) & (p[AGE] == 0)
+    five(*p);
+    p[STATE] | p[SOURCE] | p[DESTINATION] | p[PORTS] | p[AGE]
 }
 
 // A place that the rule has (`is`) or has not.
@@ -33,7 +36,7 @@ fn good_place(is: bool, limit: u32, p: &PlaceWords) -> bool
     ensures { λ r. ⌜ r ≡ (clean (placeOf (now (p .entry))) && (isFree (placeOf (now (p .entry))) || (is && ltb (placeOf (now (p .entry)) .age) limit))) ⌝ }
 {
     if p[STATE] == 0 {
-        return is_fresh(p);
+        return filled(p) == 0;
     }
     is & (p[STATE] <= 3) & (p[AGE] < limit)
 }
@@ -67,13 +70,13 @@ fn good_empty(ps: &RowWords) -> bool
     ensures { λ r. ⌜ r ≡ every (placesTests 0 0 (map placeOf (now (ps .entry)))) ⌝ }
 {
     eight(*ps);
-    let mut is = true;
+    let mut any = 0;
     let mut j: usize = 0;
     while j < 8 {
-        is = is & is_fresh(&ps[j]);
+        any = any | filled(&ps[j]);
         j += 1;
     }
-    is
+    any == 0
 }
 
 // The places of a rule that tracks.
@@ -102,8 +105,8 @@ fn good_level(b: Bucket, level: u32) -> bool
     }
 }
 
-fn good_rule(r: Rule, c: &CountWords, ps: &RowWords) -> bool
-    ensures { λ x. ⌜ x ≡ recordGood r (ruleOf (now (c .entry)) (now (ps .entry))) ⌝ }
+fn good_rule(r: &RuleWords, c: &CountWords, ps: &RowWords) -> bool
+    ensures { λ x. ⌜ x ≡ recordGood (ruleIn (now (r .entry))) (ruleOf (now (c .entry)) (now (ps .entry))) ⌝ }
 {
     let b = bucket(r);
     let k = tracking(r);
@@ -124,8 +127,8 @@ fn good_none(c: &CountWords, ps: &RowWords) -> bool
     good_level(Bucket::Unset, c[LEVEL]) & good_empty(ps)
 }
 
-fn good_at(is: bool, r: Rule, c: &CountWords, ps: &RowWords) -> bool
-    ensures { λ x. ⌜ x ≡ recordGood (cond is r noRule) (ruleOf (now (c .entry)) (now (ps .entry))) ⌝ }
+fn good_at(is: bool, r: &RuleWords, c: &CountWords, ps: &RowWords) -> bool
+    ensures { λ x. ⌜ x ≡ recordGood (cond is (ruleIn (now (r .entry))) noRule) (ruleOf (now (c .entry)) (now (ps .entry))) ⌝ }
 {
     if is {
         good_rule(r, c, ps)
@@ -134,15 +137,15 @@ fn good_at(is: bool, r: Rule, c: &CountWords, ps: &RowWords) -> bool
     }
 }
 
-fn good_rules(t: Table, counts: &Counts, places: &Places) -> bool
-    ensures { λ r. ⌜ r ≡ allBelow (λ i. recordGood (ruleOfRecord t i) (getD (rulesOf (now (counts .entry)) (now (places .entry))) i noRecord)) 64 ⌝ }
+fn good_rules(t: &TableWords, counts: &Counts, places: &Places) -> bool
+    ensures { λ r. ⌜ r ≡ allBelow (λ i. recordGood (ruleOfRecord (tableIn (now (t .entry))) i) (getD (rulesOf (now (counts .entry)) (now (places .entry))) i noRecord)) 64 ⌝ }
 {
     rows(*counts, *places);
-    let n = t.rulecount;
+    words::rows(*t);
+    let n = words::rulecount(t);
     let mut i: usize = 0;
     while i < 64 {
-        let r = t.rules[i];
-        if good_at(i < n, r, &counts[i], &places[i]) {
+        if good_at(i < n, &t[i], &counts[i], &places[i]) {
             i += 1;
         } else {
             return false;
@@ -151,11 +154,12 @@ fn good_rules(t: Table, counts: &Counts, places: &Places) -> bool
     true
 }
 
-pub fn good(t: Table, head: &Head, counts: &Counts, places: &Places) -> bool
-    ensures { λ r. ⌜ r ≡ recordsGood t (recordsOf (words (now (head .entry)) (now (counts .entry)) (now (places .entry)))) ⌝ }
+pub fn good(t: &TableWords, head: &Head, counts: &Counts, places: &Places) -> bool
+    ensures { λ r. ⌜ r ≡ recordsGood (tableIn (now (t .entry))) (recordsOf (words (now (head .entry)) (now (counts .entry)) (now (places .entry)))) ⌝ }
 {
     rows(*counts, *places);
-    let states = t.statecount as u64;
+    words::rows(*t);
+    let states = words::statecount(t) as u64;
     (head[ACTIVE] < states)
         & good_rules(t, counts, places)
         & good_level(Bucket::Unset, counts[DEFAULT][LEVEL])

@@ -6,6 +6,7 @@ ghost use Prim.Native.Nat.{_-_, _*_, _≤_};
 ghost use lib.ListN.{getD, set};
 ghost use Rattle.numbers.specs.Lists.{each};
 ghost use Rattle.table.specs.Table.{rulesOf as tableRules};
+ghost use Rattle.table.specs.Words.{ruleIn, tableIn};
 ghost use Rattle.records.specs.Records.{placeOf, ruleOf, rulesOf, recordsOf, words};
 ghost use Rattle.records.specs.Rule.{drained, agedPlace, aged};
 ghost use Rattle.records.specs.Step.{ticked};
@@ -13,11 +14,12 @@ ghost use Rattle.records.specs.Good.{recordsGood};
 use crate::shape::*;
 use crate::*;
 use table::Bucket;
-use table::Rule;
-use table::Table;
 use table::Tracking;
-use table::settings::bucket;
-use table::settings::tracking;
+use table::words;
+use table::words::RuleWords;
+use table::words::TableWords;
+use table::words::bucket;
+use table::words::tracking;
 
 fn elapsed_of(reading: u64, last: u64) -> u64
     ensures { λ r. ⌜ r ≡ reading - last ⌝ }
@@ -85,8 +87,8 @@ fn age_level(b: Bucket, elapsed: u64, c: &mut CountWords)
 }
 
 // A rule without bucket and tracking is skipped.
-fn age_rule(r: Rule, elapsed: u64, c: &mut CountWords, ps: &mut RowWords)
-    ensures { λ x. ⌜ ruleOf (now (c .exit)) (now (ps .exit)) ≡ aged elapsed r (ruleOf (now (c .entry)) (now (ps .entry))) ⌝ }
+fn age_rule(r: &RuleWords, elapsed: u64, c: &mut CountWords, ps: &mut RowWords)
+    ensures { λ x. ⌜ ruleOf (now (c .exit)) (now (ps .exit)) ≡ aged elapsed (ruleIn (now (r .entry))) (ruleOf (now (c .entry)) (now (ps .entry))) ⌝ }
 {
     let b = bucket(r);
     let k = tracking(r);
@@ -98,24 +100,24 @@ fn age_rule(r: Rule, elapsed: u64, c: &mut CountWords, ps: &mut RowWords)
     }
 }
 
-fn age_rules(t: Table, elapsed: u64, counts: &mut Counts, places: &mut Places)
-    requires { ⌜ t .rulecount ≤ 64 ⌝ }
-    ensures { λ r. ⌜ rulesOf (now (counts .exit)) (now (places .exit)) ≡ each (aged elapsed) (tableRules t) (rulesOf (now (counts .entry)) (now (places .entry))) ⌝ }
+fn age_rules(t: &TableWords, elapsed: u64, counts: &mut Counts, places: &mut Places)
+    requires { ⌜ tableIn (now t) .rulecount ≤ 64 ⌝ }
+    ensures { λ r. ⌜ rulesOf (now (counts .exit)) (now (places .exit)) ≡ each (aged elapsed) (tableRules (tableIn (now (t .entry)))) (rulesOf (now (counts .entry)) (now (places .entry))) ⌝ }
 {
     rows(*counts, *places);
-    let n = t.rulecount;
+    words::rows(*t);
+    let n = words::rulecount(t);
     let mut i: usize = 0;
     while i < n {
-        let r = t.rules[i];
-        age_rule(r, elapsed, &mut counts[i], &mut places[i]);
+        age_rule(&t[i], elapsed, &mut counts[i], &mut places[i]);
         i += 1;
     }
 }
 
 // Steps 1 and 2. Where no time has passed, good records stay as they are.
-pub fn tick(t: Table, reading: u64, head: &mut Head, counts: &mut Counts, places: &mut Places)
-    requires { ⌜ (t .rulecount ≤ 64) × (recordsGood t (recordsOf (words (now head) (now counts) (now places))) ≡ true) ⌝ }
-    ensures { λ r. ⌜ recordsOf (words (now (head .exit)) (now (counts .exit)) (now (places .exit))) ≡ ticked t reading (recordsOf (words (now (head .entry)) (now (counts .entry)) (now (places .entry)))) ⌝ }
+pub fn tick(t: &TableWords, reading: u64, head: &mut Head, counts: &mut Counts, places: &mut Places)
+    requires { ⌜ (tableIn (now t) .rulecount ≤ 64) × (recordsGood (tableIn (now t)) (recordsOf (words (now head) (now counts) (now places))) ≡ true) ⌝ }
+    ensures { λ r. ⌜ recordsOf (words (now (head .exit)) (now (counts .exit)) (now (places .exit))) ≡ ticked (tableIn (now (t .entry))) reading (recordsOf (words (now (head .entry)) (now (counts .entry)) (now (places .entry)))) ⌝ }
 {
     two(*head);
     let e = elapsed_of(reading, head[LAST]);

@@ -1,13 +1,15 @@
 // One frame judged for a good table and a good record, with nothing checked again.
 ghost use mathlib.Core.Path.{_≡_};
 ghost use mathlib.Core.Bool.{true};
-ghost use Prim.Native.Nat.{_<_, _≤_};
+ghost use Prim.Native.Nat.{_≤_};
 ghost use lib.ListN.{length};
 ghost use Rattle.layers.specs.Inside.{Inside};
 ghost use Rattle.layers.specs.Layers.{shownOf};
 ghost use Rattle.layers.specs.declared.Shown.the-variants as shown;
 ghost use Rattle.table.specs.declared.Fault.the-variants as fault;
 ghost use Rattle.table.specs.Table.{faultOf};
+ghost use Rattle.table.specs.Words.{tableIn};
+ghost use Rattle.matching.specs.Best.{bestOf};
 ghost use Rattle.records.specs.Records.{recordsOf, words};
 ghost use Rattle.records.specs.Good.{recordsGood};
 ghost use Rattle.steps.specs.Steps.{
@@ -26,6 +28,7 @@ use events::write;
 use layers::Ip;
 use layers::Layers;
 use layers::Transport;
+use matching::Best;
 use matching::deciding::best_fit;
 use matching::deciding::decider;
 use numbers::wide32;
@@ -42,7 +45,9 @@ use records::shape::shape;
 use records::time::tick;
 use records::track::flag_kind;
 use records::verdict::Verdict;
-use table::Table;
+use table::words::TableWords;
+use table::words::id;
+use table::words::rows;
 
 // "The answer is verdict, the deciding rule's id (65,535 for the default) and event length".
 pub struct Answer {
@@ -90,48 +95,62 @@ pub fn segment(ip: Ip, t: Transport) -> Segment
     }
 }
 
-fn id_at(t: Table, d: usize) -> u16
-    ensures { λ r. ⌜ r ≡ idAt t d ⌝ }
+fn id_at(t: &TableWords, d: usize) -> u16
+    ensures { λ r. ⌜ r ≡ idAt (tableIn (now (t .entry))) d ⌝ }
 {
+    rows(*t);
     if d < DEFAULT {
-        t.rules[d].id
+        id(&t[d])
     } else {
         Answer::NO_RULE
     }
 }
 
 // The mismatch event of the best fit. With no active rule: link and 65,535.
-fn write_best(t: Table, state: usize, frame: &[u8], l: Layers, space: &mut [u8]) -> usize
-    requires { ⌜ (state < 8) × (t .rulecount ≤ 64) ⌝ }
+fn write_best(
+    t: &TableWords,
+    state: usize,
+    best: Best,
+    frame: &[u8],
+    l: Layers,
+    space: &mut [u8],
+) -> usize
+    requires { ⌜ (tableIn (now t) .rulecount ≤ 64) × (best ≡ bestOf (tableIn (now t)) state (now frame) l) ⌝ }
     requires { ⌜ Inside (now frame) l ⌝ }
     requires { ⌜ 14 ≤ length (now frame) ⌝ }
     requires { ⌜ 256 ≤ length (now space) ⌝ }
-    ensures { λ r. ⌜ Wrote (bestEvent t state (now (frame .entry)) l) (now (space .entry)) (now (space .exit)) r ⌝ }
+    ensures { λ r. ⌜ Wrote (bestEvent (tableIn (now (t .entry))) state (now (frame .entry)) l) (now (space .entry)) (now (space .exit)) r ⌝ }
 {
-    let best = best_fit(t, state, frame, l);
+    rows(*t);
     let place = best.place;
     if place < DEFAULT {
-        let r = t.rules[place];
-        return write(mismatch(r, best.layer), r.id, frame, l, space);
+        return write(
+            mismatch(&t[place], best.layer),
+            id(&t[place]),
+            frame,
+            l,
+            space,
+        );
     }
     write(Event::LinkMismatch, Answer::NO_RULE, frame, l, space)
 }
 
 // The event of a verdict, at the start of the space. Verdicts 0, 1 and 2 have none.
 fn write_event(
-    t: Table,
+    t: &TableWords,
     state: usize,
+    best: Best,
     frame: &[u8],
     l: Layers,
     d: usize,
     v: Verdict,
     space: &mut [u8],
 ) -> usize
-    requires { ⌜ (state < 8) × (t .rulecount ≤ 64) ⌝ }
+    requires { ⌜ (tableIn (now t) .rulecount ≤ 64) × (best ≡ bestOf (tableIn (now t)) state (now frame) l) ⌝ }
     requires { ⌜ Inside (now frame) l ⌝ }
     requires { ⌜ 14 ≤ length (now frame) ⌝ }
     requires { ⌜ 256 ≤ length (now space) ⌝ }
-    ensures { λ r. ⌜ Wrote (eventOf t state (now (frame .entry)) l d (v .number)) (now (space .entry)) (now (space .exit)) r ⌝ }
+    ensures { λ r. ⌜ Wrote (eventOf (tableIn (now (t .entry))) state (now (frame .entry)) l d (v .number)) (now (space .entry)) (now (space .exit)) r ⌝ }
 {
     if v.number == Verdict::OVER_RATE {
         return write(Event::Ratelimit, id_at(t, d), frame, l, space);
@@ -143,14 +162,14 @@ fn write_event(
         return write(Event::MaxConnections, id_at(t, d), frame, l, space);
     }
     if v.number == Verdict::BLOCKED_BY_DEFAULT {
-        return write_best(t, state, frame, l, space);
+        return write_best(t, state, best, frame, l, space);
     }
     0
 }
 
 // Steps 1 to 5, and the event.
 pub fn step(
-    t: Table,
+    t: &TableWords,
     frame: &[u8],
     l: Layers,
     reading: u64,
@@ -159,22 +178,23 @@ pub fn step(
     places: &mut Places,
     space: &mut [u8],
 ) -> Answer
-    requires { ⌜ faultOf t ≡ fault.Good ⌝ }
-    requires { ⌜ recordsGood t (recordsOf (words (now head) (now counts) (now places))) ≡ true ⌝ }
+    requires { ⌜ faultOf (tableIn (now t)) ≡ fault.Good ⌝ }
+    requires { ⌜ recordsGood (tableIn (now t)) (recordsOf (words (now head) (now counts) (now places))) ≡ true ⌝ }
     requires { ⌜ shownOf (now frame) ≡ shown.Shows l ⌝ }
     requires { ⌜ 256 ≤ length (now space) ⌝ }
-    ensures { λ r. ⌜ record { verdict = r .verdict .number; rule = r .rule; length = r .length; words = words (now (head .exit)) (now (counts .exit)) (now (places .exit)); space = now (space .exit) } ≡ steppedAs (outcomeOf t (recordsOf (words (now (head .entry)) (now (counts .entry)) (now (places .entry)))) (record { reading = reading; bytes = now (frame .entry) }) l) (now (space .entry)) ⌝ }
-    ensures { λ r. ⌜ recordsOf (words (now (head .exit)) (now (counts .exit)) (now (places .exit))) ≡ outcomeOf t (recordsOf (words (now (head .entry)) (now (counts .entry)) (now (places .entry)))) (record { reading = reading; bytes = now (frame .entry) }) l .records ⌝ }
+    ensures { λ r. ⌜ record { verdict = r .verdict .number; rule = r .rule; length = r .length; words = words (now (head .exit)) (now (counts .exit)) (now (places .exit)); space = now (space .exit) } ≡ steppedAs (outcomeOf (tableIn (now (t .entry))) (recordsOf (words (now (head .entry)) (now (counts .entry)) (now (places .entry)))) (record { reading = reading; bytes = now (frame .entry) }) l) (now (space .entry)) ⌝ }
+    ensures { λ r. ⌜ recordsOf (words (now (head .exit)) (now (counts .exit)) (now (places .exit))) ≡ outcomeOf (tableIn (now (t .entry))) (recordsOf (words (now (head .entry)) (now (counts .entry)) (now (places .entry)))) (record { reading = reading; bytes = now (frame .entry) }) l .records ⌝ }
 {
     let state = head[ACTIVE] as usize;
     let ip = l.ip;
     let transport = l.transport;
     let g = segment(ip, transport);
-    let d = decider(t, state, frame, l);
+    let best = best_fit(t, state, frame, l);
+    let d = decider(best);
     tick(t, reading, head, counts, places);
     let v = act(t, g, d, head, counts, places);
     shape(*head, *counts, *places);
-    let length = write_event(t, state, frame, l, d, v, space);
+    let length = write_event(t, state, best, frame, l, d, v, space);
     Answer {
         verdict: v,
         rule: id_at(t, d),

@@ -31,7 +31,7 @@ use line::SECOND;
 use records::Counts;
 use records::Head;
 use records::Places;
-use table::Table;
+use table::words::TableWords;
 
 // The places of rules 20 and 30 in the table.
 const AT20: usize = 1;
@@ -63,7 +63,7 @@ fn looked(line: Line, look: Look, counts: &Counts, places: &Places) -> Line {
     }
 }
 
-fn fresh(t: Table, head: &mut Head, counts: &mut Counts, places: &mut Places) {
+fn fresh(t: &TableWords, head: &mut Head, counts: &mut Counts, places: &mut Places) {
     let Started::Fresh = firewall::fresh(t, 0, head, counts, places) else {
         io::write_all(libc::STDOUT_FILENO, b"the table is refused\n");
         return;
@@ -75,7 +75,7 @@ fn judge(
     bytes: &[u8; 1519],
     length: usize,
     reading: u64,
-    t: Table,
+    t: &TableWords,
     head: &mut Head,
     counts: &mut Counts,
     places: &mut Places,
@@ -93,7 +93,7 @@ fn show(
     f: Frame,
     reading: u64,
     look: Look,
-    t: Table,
+    t: &TableWords,
     head: &mut Head,
     counts: &mut Counts,
     places: &mut Places,
@@ -114,7 +114,7 @@ fn show(
 fn alone(
     example: &[u8],
     f: Frame,
-    t: Table,
+    t: &TableWords,
     head: &mut Head,
     counts: &mut Counts,
     places: &mut Places,
@@ -123,14 +123,14 @@ fn alone(
     show(example, f, 0, Look::Nothing, t, head, counts, places);
 }
 
-fn m1_to_m4(t: Table, head: &mut Head, counts: &mut Counts, places: &mut Places) {
+fn m1_to_m4(t: &TableWords, head: &mut Head, counts: &mut Counts, places: &mut Places) {
     alone(b"M1", a(), t, head, counts, places);
     alone(b"M2", a_padded(), t, head, counts, places);
     alone(b"M3", a_with_type(), t, head, counts, places);
     alone(b"M4", a_cut(), t, head, counts, places);
 }
 
-fn m5(t: Table, head: &mut Head, counts: &mut Counts, places: &mut Places) {
+fn m5(t: &TableWords, head: &mut Head, counts: &mut Counts, places: &mut Places) {
     fresh(t, head, counts, places);
     show(b"M5", arp(), 0, Look::Level, t, head, counts, places);
     show(b"M5", arp(), 0, Look::Level, t, head, counts, places);
@@ -140,14 +140,14 @@ fn m5(t: Table, head: &mut Head, counts: &mut Counts, places: &mut Places) {
     show(b"M5", arp(), 4000, Look::Level, t, head, counts, places);
 }
 
-fn m6(t: Table, head: &mut Head, counts: &mut Counts, places: &mut Places) {
+fn m6(t: &TableWords, head: &mut Head, counts: &mut Counts, places: &mut Places) {
     fresh(t, head, counts, places);
     show(b"M6", ack(), 0, Look::Places, t, head, counts, places);
     show(b"M6", syn_ack(), 0, Look::Places, t, head, counts, places);
     show(b"M6", ack(), 0, Look::Places, t, head, counts, places);
 }
 
-fn m7(t: Table, head: &mut Head, counts: &mut Counts, places: &mut Places) {
+fn m7(t: &TableWords, head: &mut Head, counts: &mut Counts, places: &mut Places) {
     fresh(t, head, counts, places);
     show(b"M7", syn1(), 0, Look::Places, t, head, counts, places);
     show(b"M7", syn2(), 0, Look::Places, t, head, counts, places);
@@ -156,39 +156,39 @@ fn m7(t: Table, head: &mut Head, counts: &mut Counts, places: &mut Places) {
     show(b"M7", syn3(), 1000, Look::Places, t, head, counts, places);
 }
 
-fn m8(t: Table, head: &mut Head, counts: &mut Counts, places: &mut Places) {
+fn m8(t: &TableWords, head: &mut Head, counts: &mut Counts, places: &mut Places) {
     fresh(t, head, counts, places);
     show(b"M8", syn1(), 1000000, Look::Both, t, head, counts, places);
     show(b"M8", arp(), 0, Look::Both, t, head, counts, places);
     show(b"M8", arp(), 500, Look::Both, t, head, counts, places);
 }
 
-fn m9(t: Table, head: &mut Head, counts: &mut Counts, places: &mut Places) {
+fn m9(t: &TableWords, head: &mut Head, counts: &mut Counts, places: &mut Places) {
     alone(b"M9", a_to_port_68(), t, head, counts, places);
     alone(b"M9", a_to_port_1024(), t, head, counts, places);
 }
 
-fn m10(t: Table, head: &mut Head, counts: &mut Counts, places: &mut Places) {
+fn m10(t: &TableWords, head: &mut Head, counts: &mut Counts, places: &mut Places) {
     alone(b"M10", first_13(), t, head, counts, places);
     alone(b"M10", tagged_17(), t, head, counts, places);
     alone(b"M10", longest(), t, head, counts, places);
     alone(b"M10", too_long(), t, head, counts, places);
 }
 
-fn m11(t: Table, head: &mut Head, counts: &mut Counts, places: &mut Places) {
+fn m11(t: &TableWords, head: &mut Head, counts: &mut Counts, places: &mut Places) {
     fresh(t, head, counts, places);
     show(b"M11", a(), 500, Look::Level, t, head, counts, places);
     show(b"M11", arp(), 500, Look::Level, t, head, counts, places);
 }
 
 // The other order, from records of its own.
-fn m11_turned(t: Table, head: &mut Head, counts: &mut Counts, places: &mut Places) {
+fn m11_turned(t: &TableWords, head: &mut Head, counts: &mut Counts, places: &mut Places) {
     fresh(t, head, counts, places);
     show(b"M11", arp(), 500, Look::Level, t, head, counts, places);
     show(b"M11", a(), 500, Look::Level, t, head, counts, places);
 }
 
-fn both_orders(t: Table, head: &mut Head, counts: &mut Counts, places: &mut Places) {
+fn both_orders(t: &TableWords, head: &mut Head, counts: &mut Counts, places: &mut Places) {
     let mut head2: Head = [0; 2];
     let mut counts2: Counts = [[0; 3]; 65];
     let mut places2: Places = [[[0; 5]; 8]; 64];
@@ -208,17 +208,18 @@ fn both_orders(t: Table, head: &mut Head, counts: &mut Counts, places: &mut Plac
 }
 
 fn main() {
-    let t = set::table();
+    let mut t: TableWords = [[0; 8]; 73];
+    lay::table(set::table(), &mut t);
     let mut head: Head = [0; 2];
     let mut counts: Counts = [[0; 3]; 65];
     let mut places: Places = [[[0; 5]; 8]; 64];
     line::title();
-    m1_to_m4(t, &mut head, &mut counts, &mut places);
-    m5(t, &mut head, &mut counts, &mut places);
-    m6(t, &mut head, &mut counts, &mut places);
-    m7(t, &mut head, &mut counts, &mut places);
-    m8(t, &mut head, &mut counts, &mut places);
-    m9(t, &mut head, &mut counts, &mut places);
-    m10(t, &mut head, &mut counts, &mut places);
-    both_orders(t, &mut head, &mut counts, &mut places);
+    m1_to_m4(&t, &mut head, &mut counts, &mut places);
+    m5(&t, &mut head, &mut counts, &mut places);
+    m6(&t, &mut head, &mut counts, &mut places);
+    m7(&t, &mut head, &mut counts, &mut places);
+    m8(&t, &mut head, &mut counts, &mut places);
+    m9(&t, &mut head, &mut counts, &mut places);
+    m10(&t, &mut head, &mut counts, &mut places);
+    both_orders(&t, &mut head, &mut counts, &mut places);
 }

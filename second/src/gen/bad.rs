@@ -47,7 +47,7 @@ impl<W: Write> Gen<W> {
             records.free(place, slot);
             let draft = aim(&rule, &mut self.random);
             let (source, destination) = (draft.source, draft.destination);
-            let quadruple = Quadruple { source, destination, sport: draft.sport, dport: draft.dport };
+            let quadruple = Quadruple::new(source, destination, draft.sport, draft.dport);
             if records.find(place, quadruple).is_some() {
                 continue;
             }

@@ -26,7 +26,7 @@ impl<W: Write> Gen<W> {
         if let Some(slot) = self.slot_held_as(place, held) {
             let of = self.records.conversations[place][slot].quadruple;
             (draft.source, draft.destination) = (of.source, of.destination);
-            (draft.sport, draft.dport) = (of.sport, of.dport);
+            (draft.sport, draft.dport) = (of.sport(), of.dport());
         }
         if self.random.chance(5) {
             return self.damaged(draft);

@@ -8,9 +8,6 @@ Inv-loop buf₀ image₀ out₀ used₀ span₀ head₀ counts₀ places₀ t₀
 abbrev μ-loop : tie.MeasureT-loop
 μ-loop buf₀ image₀ out₀ used₀ span₀ head₀ counts₀ places₀ t₀ turns₀ buf image out used span head counts places t turns = turns
 
-table-of-requires : tie.Need-table-of-requires Inv-loop μ-loop
-table-of-requires c κs = search needs
-
 loop-holds : tie.Need-loop-holds Inv-loop μ-loop
 loop-holds c = search needs
 
@@ -35,8 +32,11 @@ alone-requires c κs = search needs
 returns-2 : tie.Need-returns-2 Inv-loop μ-loop
 returns-2 c = search needs
 
-table-of-requires-2 : tie.Need-table-of-requires-2 Inv-loop μ-loop
-table-of-requires-2 c κs = search needs
+table-of-requires : tie.Need-table-of-requires Inv-loop μ-loop
+table-of-requires c κs = search needs
+
+table-requires : tie.Need-table-requires Inv-loop μ-loop
+table-requires c κs = search needs
 
 sub-turns : tie.Need-sub-turns Inv-loop μ-loop
 sub-turns c = search needs
@@ -56,7 +56,6 @@ run-spec =
     (tie.spec
     Inv-loop
     μ-loop
-    table-of-requires
     loop-holds
     next-requires
     enum-known-letter
@@ -65,7 +64,8 @@ run-spec =
     call-requires
     alone-requires
     returns-2
-    table-of-requires-2
+    table-of-requires
+    table-requires
     sub-turns
     loop-less
     loop-again

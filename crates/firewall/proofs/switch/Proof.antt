@@ -2,6 +2,7 @@ use mathlib.Core.Path.{sym, ap, _∙_}
 use Rattle.firewall.specs.Firewall.{saidChecked}
 use Rattle.firewall.proofs.Laws.{switch-refused, switch-beyond, switch-done}
 use borrow.Author.Needs.{needs}
+use native.Mathlib.Omega.{arith}
 use Rattle.firewall.proofs.switch.Statement.{statement}
 use Rattle.firewall.proofs.switch.Tie as tie
 
@@ -14,6 +15,9 @@ enum-known-checked c = search needs
 enum-told : tie.Need-enum-told
 enum-told c = search needs
 
+statecount-requires : tie.Need-statecount-requires
+statecount-requires c κs = search needs
+
 shape-requires : tie.Need-shape-requires
 shape-requires c κs = search needs
 
@@ -22,7 +26,8 @@ switch-to-requires c κs = search needs
 
 returns : tie.Need-returns
 returns c =
-    switch-done _ _ _ _ _ _ (ap saidChecked (sym (c .before .before .before .before .before .before .before .before .enum-told .given .1)) ∙ c .before .before .before .before .before .before .before .before .before .before .check .ensures) (c .before .before .before .before .before .before .if1 .taken) (c .before .before .shape .ensures)
+    let n = c .before .before .before .before .before .before .before in
+    switch-done _ _ _ _ _ _ (ap saidChecked (sym (n .before .enum-told .given .1)) ∙ n .before .before .before .check .ensures) (omega (arith, c .before .before .before .before .before .before .if1 .taken, n .statecount .ensures)) (c .before .before .shape .ensures)
     (c .switch-to .ensures)
 
 no-such-state-requires : tie.Need-no-such-state-requires
@@ -30,8 +35,9 @@ no-such-state-requires c κs = search needs
 
 returns-2 : tie.Need-returns-2
 returns-2 c =
+    let n = c .before .before in
     rw (c .no-such-state .ensures)
-    (switch-beyond _ _ _ (ap saidChecked (sym (c .before .before .before .enum-told .given .1)) ∙ c .before .before .before .before .before .check .ensures) (c .before .if1 .left))
+    (switch-beyond _ _ _ (ap saidChecked (sym (n .before .enum-told .given .1)) ∙ n .before .before .before .check .ensures) (omega (arith, c .before .if1 .left, n .statecount .ensures)))
 
 returns-3 : tie.Need-returns-3
 returns-3 c = switch-refused _ _ _ _ _ (ap saidChecked (sym (c .before .checked .given .1)) ∙ c .before .before .before .check .ensures)
@@ -43,6 +49,7 @@ switch-spec =
     check-requires
     enum-known-checked
     enum-told
+    statecount-requires
     shape-requires
     switch-to-requires
     returns

@@ -1,16 +1,50 @@
-use mathlib.Core.Path.{refl}
-use Rattle.matching.specs.Matching.{layerTests}
+use mathlib.Core.Path.{_≡_, refl, ap, _∙_}
+use Rattle.table.specs.Words.{linkIn, ipv4In, transportIn, someipIn}
+use Rattle.table.specs.declared.LinkSettings.{LinkSettings}
+use Rattle.table.specs.declared.Ipv4Settings.{Ipv4Settings}
+use Rattle.table.specs.declared.TransportSettings.{TransportSettings}
+use Rattle.table.specs.declared.SomeipSettings.{SomeipSettings}
+use Rattle.matching.specs.Matching.{linkMatches, ipv4Matches, transportMatches, someipMatches, layerTests}
 use Rattle.matching.proofs.Agreeing.{count-stops, count-goes}
 use borrow.Author.Needs.{needs}
 use Rattle.matching.proofs.rules.layers_matched.Statement.{statement}
 use Rattle.matching.proofs.rules.layers_matched.Tie as tie
+
+-- a layer is tested with the settings that the rule's words say
+link-told : (c : tie.After-link-matches) → c .link-matches .result ≡ linkMatches (linkIn (c .before .before .before .args .r .now)) (c .before .before .before .args .l .link)
+link-told c = c .link-matches .ensures ∙ ap (λ (x : LinkSettings). linkMatches x (c .before .before .before .args .l .link)) (c .before .link .ensures)
+
+ipv4-told : (c : tie.After-ipv4-matches) → c .ipv4-matches .result ≡ ipv4Matches (ipv4In (c .before .before .before .before .before .before .args .r .now)) (c .before .before .before .before .before .before .args .l .ip)
+ipv4-told c = c .ipv4-matches .ensures ∙ ap (λ (x : Ipv4Settings). ipv4Matches x (c .before .before .before .before .before .before .args .l .ip)) (c .before .ipv4 .ensures)
+
+transport-told :
+    (c : tie.After-transport-matches)
+    → c .transport-matches .result
+    ≡ transportMatches (transportIn (c .before .before .before .before .before .before .before .before .before .args .r .now)) (c .before .before .before .before .before .before .before .before .before .args .l .transport)
+transport-told c =
+    c .transport-matches .ensures
+    ∙ ap (λ (x : TransportSettings). transportMatches x (c .before .before .before .before .before .before .before .before .before .args .l .transport)) (c .before .transport .ensures)
+
+someip-told :
+    (c : tie.After-someip-matches)
+    → c .someip-matches .result
+    ≡ someipMatches (someipIn (c .before .before .before .before .before .before .before .before .before .before .before .before .args .r .now)) (c .before .before .before .before .before .before .before .before .before .before .before .before .args .s .now) (c .before .before .before .before .before .before .before .before .before .before .before .before .args .l .someip)
+someip-told c =
+    c .someip-matches .ensures
+    ∙ ap (λ (x : SomeipSettings). someipMatches x (c .before .before .before .before .before .before .before .before .before .before .before .before .args .s .now) (c .before .before .before .before .before .before .before .before .before .before .before .before .args .l .someip)) (c .before .someip .ensures)
+
+link-requires : tie.Need-link-requires
+link-requires c κs = search needs
 
 link-matches-requires : tie.Need-link-matches-requires
 link-matches-requires c κs = search needs
 
 returns : tie.Need-returns
 unfolding layerTests
-returns c = count-stops _ (c .before .link-matches .ensures) (c .if1 .taken)
+returns c = count-stops _ (link-told (c .before)) (c .if1 .taken)
+
+ipv4-requires : tie.Need-ipv4-requires
+ipv4-requires c κs = search needs
 
 ipv4-matches-requires : tie.Need-ipv4-matches-requires
 ipv4-matches-requires c κs = search needs
@@ -18,8 +52,11 @@ ipv4-matches-requires c κs = search needs
 returns-2 : tie.Need-returns-2
 unfolding layerTests
 returns-2 c =
-    let a = c .before .before in
-    count-goes (a .before .link-matches .ensures) (a .if1 .left) (count-stops _ (c .before .ipv4-matches .ensures) (c .if2 .taken))
+    let a = c .before .before .before in
+    count-goes (link-told (a .before)) (a .if1 .left) (count-stops _ (ipv4-told (c .before)) (c .if2 .taken))
+
+transport-requires : tie.Need-transport-requires
+transport-requires c κs = search needs
 
 transport-matches-requires : tie.Need-transport-matches-requires
 transport-matches-requires c κs = search needs
@@ -27,10 +64,13 @@ transport-matches-requires c κs = search needs
 returns-3 : tie.Need-returns-3
 unfolding layerTests
 returns-3 c =
-    let b = c .before .before in
-    let a = b .before .before in
-    count-goes (a .before .link-matches .ensures) (a .if1 .left)
-    (count-goes (b .before .ipv4-matches .ensures) (b .if2 .left) (count-stops _ (c .before .transport-matches .ensures) (c .if3 .taken)))
+    let b = c .before .before .before in
+    let a = b .before .before .before in
+    count-goes (link-told (a .before)) (a .if1 .left)
+    (count-goes (ipv4-told (b .before)) (b .if2 .left) (count-stops _ (transport-told (c .before)) (c .if3 .taken)))
+
+someip-requires : tie.Need-someip-requires
+someip-requires c κs = search needs
 
 someip-matches-requires : tie.Need-someip-matches-requires
 someip-matches-requires c κs = search needs
@@ -38,33 +78,37 @@ someip-matches-requires c κs = search needs
 returns-4 : tie.Need-returns-4
 unfolding layerTests
 returns-4 c =
-    let d = c .before .before in
-    let b = d .before .before in
-    let a = b .before .before in
-    count-goes (a .before .link-matches .ensures) (a .if1 .left)
-    (count-goes (b .before .ipv4-matches .ensures) (b .if2 .left)
-    (count-goes (d .before .transport-matches .ensures) (d .if3 .left) (count-stops _ (c .before .someip-matches .ensures) (c .if4 .taken))))
+    let d = c .before .before .before in
+    let b = d .before .before .before in
+    let a = b .before .before .before in
+    count-goes (link-told (a .before)) (a .if1 .left)
+    (count-goes (ipv4-told (b .before)) (b .if2 .left)
+    (count-goes (transport-told (d .before)) (d .if3 .left) (count-stops _ (someip-told (c .before)) (c .if4 .taken))))
 
 returns-5 : tie.Need-returns-5
 unfolding layerTests
 returns-5 c =
-    let d = c .before .before in
-    let b = d .before .before in
-    let a = b .before .before in
-    count-goes (a .before .link-matches .ensures) (a .if1 .left)
-    (count-goes (b .before .ipv4-matches .ensures) (b .if2 .left)
-    (count-goes (d .before .transport-matches .ensures) (d .if3 .left) (count-goes (c .before .someip-matches .ensures) (c .if4 .left) refl)))
+    let d = c .before .before .before in
+    let b = d .before .before .before in
+    let a = b .before .before .before in
+    count-goes (link-told (a .before)) (a .if1 .left)
+    (count-goes (ipv4-told (b .before)) (b .if2 .left)
+    (count-goes (transport-told (d .before)) (d .if3 .left) (count-goes (someip-told (c .before)) (c .if4 .left) refl)))
 
 pub layers-matched-spec : {M : Type 1} → statement M
 layers-matched-spec =
     tie.close
     (tie.spec
+    link-requires
     link-matches-requires
     returns
+    ipv4-requires
     ipv4-matches-requires
     returns-2
+    transport-requires
     transport-matches-requires
     returns-3
+    someip-requires
     someip-matches-requires
     returns-4
     returns-5)

@@ -1,3 +1,5 @@
+use Rattle.table.specs.Words.{tableIn}
+use Rattle.table.proofs.Rows.{rule-at}
 use Rattle.records.proofs.ActLaws.{act-rule, act-default}
 use borrow.Author.Needs.{needs}
 use native.Mathlib.Omega.{arith}
@@ -7,11 +9,8 @@ use Rattle.records.proofs.act.act.Tie as tie
 rows-requires : tie.Need-rows-requires
 rows-requires c κs = search needs
 
-mul-r : tie.Need-mul-r
-mul-r c = search needs
-
-element-copy-out-r : tie.Need-element-copy-out-r
-element-copy-out-r c = search needs
+rows-requires-2 : tie.Need-rows-requires-2
+rows-requires-2 c κs = search needs
 
 mul-react : tie.Need-mul-react
 mul-react c = search needs
@@ -25,17 +24,22 @@ mul-react-2 c = search needs
 index-1-react-2 : tie.Need-index-1-react-2
 index-1-react-2 c = search needs
 
+mul-react-3 : tie.Need-mul-react-3
+mul-react-3 c = search needs
+
+index-1-react-3 : tie.Need-index-1-react-3
+index-1-react-3 c = search needs
+
 react-requires : tie.Need-react-requires
-react-requires c κs = c .before .before .before .before .before .before .before .pre .2 (c .before .before .before .if1 .taken)
+react-requires c κs = let s = c .before .before .before .before .before .before .before .before .before in
+    let h = c .before .before .before .if1 .taken in
+    rw (← (rule-at (s .args .t .now) (s .args .d) h)) (s .pre .2 h)
 
 element-copy-out-k : tie.Need-element-copy-out-k
 element-copy-out-k c = search needs
 
-mul-s : tie.Need-mul-s
-mul-s c = search needs
-
-element-copy-out-s : tie.Need-element-copy-out-s
-element-copy-out-s c = search needs
+default-of-requires : tie.Need-default-of-requires
+default-of-requires c κs = search needs
 
 index-1-fall-back : tie.Need-index-1-fall-back
 index-1-fall-back c = search needs
@@ -44,28 +48,30 @@ fall-back-requires : tie.Need-fall-back-requires
 fall-back-requires c κs = search needs
 
 returns : tie.Need-returns
-returns c = let a = c .before .before .before .before .before .before .before .before .args in
-    act-rule (a .t1) (a .g) (a .d) (a .head .now) (a .counts .now) (a .places .now) _ _ _ (omega arith) (omega arith) (omega arith) (c .react .ensures)
+returns c = let a = c .before .before .before .before .before .before .before .before .before .before .args in
+    act-rule (tableIn (a .t .now)) (a .g) (a .d) (a .head .now) (a .counts .now) (a .places .now) _ _ _ (omega arith) (omega arith) (omega arith)
+    (rw (rule-at (a .t .now) (a .d) (omega arith)) (c .react .ensures))
 
 returns-2 : tie.Need-returns-2
-returns-2 c = let a = c .before .before .before .before .before .before .before .before .args in
-    act-default (a .t1) (a .g) (a .d) (a .head .now) (a .counts .now) (a .places .now) _ _ (omega arith) (omega arith) (omega arith) (c .fall-back .ensures)
+returns-2 c = let a = c .before .before .before .before .before .before .before .before .before .before .args in
+    act-default (tableIn (a .t .now)) (a .g) (a .d) (a .head .now) (a .counts .now) (a .places .now) _ _ (omega arith) (omega arith) (omega arith)
+    (rw (← (c .before .before .default-of .ensures)) (c .fall-back .ensures))
 
 pub act-spec : {M : Type 1} → statement M
 act-spec =
     tie.close
     (tie.spec
     rows-requires
-    mul-r
-    element-copy-out-r
+    rows-requires-2
     mul-react
     index-1-react
     mul-react-2
     index-1-react-2
+    mul-react-3
+    index-1-react-3
     react-requires
     element-copy-out-k
-    mul-s
-    element-copy-out-s
+    default-of-requires
     index-1-fall-back
     fall-back-requires
     returns

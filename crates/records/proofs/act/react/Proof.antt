@@ -1,6 +1,7 @@
 use mathlib.Core.Path.{ap, _∙_}
 use lib.ListN.{getD}
 use Rattle.table.specs.declared.Bucket.{Bucket}
+use Rattle.table.specs.Words.{ruleIn}
 use Rattle.records.specs.Rule.{raised}
 use Rattle.records.proofs.ActLaws.{react-is}
 use borrow.Author.Needs.{needs}
@@ -24,7 +25,7 @@ settle-requires c κs = search needs
 
 returns : tie.Need-returns
 returns c = let a = c .before .before .before .before .before .before .before .args in
-    react-is (a .c .now) _ (a .ps .now) (c .before .before .decide .last .1 .1 .1 .1 .0) _ _ (c .settle .ensures) (a .r) (a .g) (c .before .before .before .before .raise .ensures ∙ ap (λ (k : Bucket). raised k (getD (a .c .now) 0 0)) (c .before .before .before .before .before .before .bucket .ensures)) (c .before .before .decide .ensures)
+    react-is (a .c .now) _ (a .ps .now) (c .before .before .decide .last .1 .1 .1 .1 .0) _ _ (c .settle .ensures) (ruleIn (a .r .now)) (a .g) (c .before .before .before .before .raise .ensures ∙ ap (λ (k : Bucket). raised k (getD (a .c .now) 0 0)) (c .before .before .before .before .before .before .bucket .ensures)) (c .before .before .decide .ensures)
 
 pub react-spec : {M : Type 1} → statement M
 react-spec =

@@ -1,12 +1,20 @@
-use mathlib.Core.Path.{_≡_, refl, sym, _∙_}
-use lib.ListN.{length, length-map}
-use Rattle.records.proofs.GoodCode.{all-is}
+use mathlib.Core.Path.{ap}
+use lib.ListN.{getD}
+use lib.Dec.{ltb}
+use Rattle.table.specs.Words.{tableIn}
+use Rattle.records.proofs.GoodCode.{rules-64, all-is}
 use borrow.Author.Needs.{needs}
 use Rattle.records.proofs.good.good.Statement.{statement}
 use Rattle.records.proofs.good.good.Tie as tie
 
 rows-requires : tie.Need-rows-requires
 rows-requires c κs = search needs
+
+rows-requires-2 : tie.Need-rows-requires-2
+rows-requires-2 c κs = search needs
+
+statecount-requires : tie.Need-statecount-requires
+statecount-requires c κs = search needs
 
 element-copy-out-result : tie.Need-element-copy-out-result
 element-copy-out-result c = search needs
@@ -24,15 +32,16 @@ good-level-requires : tie.Need-good-level-requires
 good-level-requires c κs = search needs
 
 returns : tie.Need-returns
-returns c = let a = c .before .before .before .before .before .before .before .args in
-    let n : length (a .t .rules) ≡ 64 = sym (length-map (a .t .rules) _) ∙ c .before .before .before .before .before .before .before .good .0 .1 .1 .1 .0 .1 .0 .1 in
-    all-is (a .t) (a .head .now) (a .counts .now) (a .places .now) _ _ _ n (c .before .before .before .before .rows .ensures .0) (c .before .before .before .before .rows .ensures .1) refl (c .before .before .good-rules .ensures) (c .good-level .ensures)
+returns c = let a = c .before .before .before .before .before .before .before .before .before .before .args in
+    all-is (tableIn (a .t .now)) (a .head .now) (a .counts .now) (a .places .now) _ _ _ (rules-64 (a .t .now) (c .before .before .before .before .before .rows2 .ensures)) (c .before .before .before .before .before .before .before .rows .ensures .0) (c .before .before .before .before .before .before .before .rows .ensures .1) (ap (ltb (getD (a .head .now) 1 0)) (c .before .before .before .before .statecount .ensures)) (c .before .before .good-rules .ensures) (c .good-level .ensures)
 
 pub good-spec : {M : Type 1} → statement M
 good-spec =
     tie.close
     (tie.spec
     rows-requires
+    rows-requires-2
+    statecount-requires
     element-copy-out-result
     good-rules-requires
     index-1-good-level

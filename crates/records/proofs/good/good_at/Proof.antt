@@ -1,6 +1,7 @@
 use mathlib.Core.Path.{sym, ap, _∙_}
 use mathlib.Core.Bool.{Bool, cond}
 use Rattle.table.specs.Table.{noRule}
+use Rattle.table.specs.Words.{ruleIn}
 use Rattle.records.specs.Records.{ruleOf}
 use Rattle.records.specs.Good.{recordGood}
 use borrow.Author.Needs.{needs}
@@ -15,11 +16,11 @@ good-none-requires c κs = search needs
 
 returns : tie.Need-returns
 returns c = let a = c .before .before .args in
-    c .good-rule .ensures ∙ ap (λ (k : Bool). recordGood (cond k (a .r) noRule) (ruleOf (a .c .now) (a .ps .now))) (sym (c .before .if1 .taken))
+    c .good-rule .ensures ∙ ap (λ (k : Bool). recordGood (cond k (ruleIn (a .r .now)) noRule) (ruleOf (a .c .now) (a .ps .now))) (sym (c .before .if1 .taken))
 
 returns-2 : tie.Need-returns-2
 returns-2 c = let a = c .before .before .args in
-    c .good-none .ensures ∙ ap (λ (k : Bool). recordGood (cond k (a .r) noRule) (ruleOf (a .c .now) (a .ps .now))) (sym (c .before .if1 .left))
+    c .good-none .ensures ∙ ap (λ (k : Bool). recordGood (cond k (ruleIn (a .r .now)) noRule) (ruleOf (a .c .now) (a .ps .now))) (sym (c .before .if1 .left))
 
 pub good-at-spec : {M : Type 1} → statement M
 good-at-spec = tie.close (tie.spec good-rule-requires good-none-requires returns returns-2)

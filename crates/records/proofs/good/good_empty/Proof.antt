@@ -2,6 +2,7 @@ use Prim.Native.Nat.{_≤_, _-_}
 use mathlib.Core.Path.{_≡_, sym, ap, _∙_}
 use mathlib.Core.Bool.{_&&_}
 use mathlib.Core.List.{map}
+use lib.Dec.{eqb}
 use lib.ListN.{length-map}
 use Rattle.numbers.specs.Lists.{allBelow}
 use Rattle.numbers.proofs.Lists.{below-none}
@@ -9,17 +10,17 @@ use Rattle.records.specs.Records.{Place, placeOf}
 use Rattle.records.specs.Rule.{isFree}
 use Rattle.records.specs.Good.{clean}
 use Rattle.records.proofs.CodeLaws.{place-at}
-use Rattle.records.proofs.GoodCode.{freshAt, below-more, empty-is}
+use Rattle.records.proofs.GoodCode.{or-zero, freshAt, below-more, empty-is}
 use borrow.Author.Needs.{needs}
 use native.Mathlib.Omega.{arith}
 use Rattle.records.proofs.good.good_empty.Statement.{statement}
 use Rattle.records.proofs.good.good_empty.Tie as tie
 
 abbrev Inv-loop : tie.InvT-loop
-Inv-loop ps is₀ j₀ is j = (j ≤ 8) × (is ≡ allBelow (freshAt (map placeOf ps)) j)
+Inv-loop ps any₀ j₀ any j = (j ≤ 8) × (eqb any 0 ≡ allBelow (freshAt (map placeOf ps)) j)
 
 abbrev μ-loop : tie.MeasureT-loop
-μ-loop ps is₀ j₀ is j = 8 - j
+μ-loop ps any₀ j₀ any j = 8 - j
 
 eight-requires : tie.Need-eight-requires Inv-loop μ-loop
 eight-requires c κs = tt
@@ -27,14 +28,14 @@ eight-requires c κs = tt
 loop-holds : tie.Need-loop-holds Inv-loop μ-loop
 loop-holds c = (omega arith, sym (below-none (freshAt (map placeOf (c .before .before .args .ps .now)))))
 
-mul-is-fresh : tie.Need-mul-is-fresh Inv-loop μ-loop
-mul-is-fresh c = search needs
+mul-filled : tie.Need-mul-filled Inv-loop μ-loop
+mul-filled c = search needs
 
-index-1-is-fresh : tie.Need-index-1-is-fresh Inv-loop μ-loop
-index-1-is-fresh c = search needs
+index-1-filled : tie.Need-index-1-filled Inv-loop μ-loop
+index-1-filled c = search needs
 
-is-fresh-requires : tie.Need-is-fresh-requires Inv-loop μ-loop
-is-fresh-requires c κs = tt
+filled-requires : tie.Need-filled-requires Inv-loop μ-loop
+filled-requires c κs = tt
 
 add-j : tie.Need-add-j Inv-loop μ-loop
 add-j c = search needs
@@ -45,7 +46,7 @@ loop-less c = search needs
 loop-again : tie.Need-loop-again Inv-loop μ-loop
 loop-again c = let ps = c .before .before .before .before .before .before .args .ps .now in
     let l = c .before .before .before .loop in
-    (omega arith, below-more (freshAt (map placeOf ps)) (l .j) _ _ (l .inv .1) (c .is-fresh .ensures ∙ ap (λ (p : Place). isFree p && clean p) (sym (place-at ps (l .j)))))
+    (omega arith, or-zero (l .any) (c .filled .result) ∙ below-more (freshAt (map placeOf ps)) (l .j) _ _ (l .inv .1) (c .filled .ensures ∙ ap (λ (p : Place). isFree p && clean p) (sym (place-at ps (l .j)))))
 
 returns : tie.Need-returns Inv-loop μ-loop
 returns c = let ps = c .before .before .before .before .args .ps .now in
@@ -61,9 +62,9 @@ good-empty-spec =
     μ-loop
     eight-requires
     loop-holds
-    mul-is-fresh
-    index-1-is-fresh
-    is-fresh-requires
+    mul-filled
+    index-1-filled
+    filled-requires
     add-j
     loop-less
     loop-again

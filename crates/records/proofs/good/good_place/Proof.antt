@@ -7,12 +7,12 @@ use Rattle.records.proofs.good.good_place.Tie as tie
 element-copy-out-if1 : tie.Need-element-copy-out-if1
 element-copy-out-if1 c = search needs
 
-is-fresh-requires : tie.Need-is-fresh-requires
-is-fresh-requires c κs = search needs
+filled-requires : tie.Need-filled-requires
+filled-requires c κs = search needs
 
 returns : tie.Need-returns
 returns c = let a = c .before .before .before .args in
-    c .is-fresh .ensures ∙ free-good (a .p .now) (a .is) (a .limit) (c .before .if1 .taken)
+    c .filled .ensures ∙ free-good (a .p .now) (a .is) (a .limit) (c .before .if1 .taken)
 
 element-copy-out-result : tie.Need-element-copy-out-result
 element-copy-out-result c = search needs
@@ -29,7 +29,7 @@ good-place-spec =
     tie.close
     (tie.spec
     element-copy-out-if1
-    is-fresh-requires
+    filled-requires
     returns
     element-copy-out-result
     element-copy-out-result-2

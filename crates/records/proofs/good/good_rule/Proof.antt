@@ -1,4 +1,5 @@
 use mathlib.Core.Path.{sym, _∙_}
+use Rattle.table.specs.Words.{ruleIn}
 use Rattle.records.specs.Records.{ruleOf}
 use Rattle.records.proofs.GoodCode.{rule-yes, rule-no}
 use borrow.Author.Needs.{needs}
@@ -31,15 +32,15 @@ good-room-requires c κs = search needs
 
 returns : tie.Need-returns
 returns c = let a = c .before .before .before .before .before .before .before .before .args in
-    rule-yes (a .r) (ruleOf (a .c .now) (a .ps .now)) _ _ (c .before .before .before .before .before .before .before .bucket .ensures) (c .before .before .before .before .good-level .ensures) _ _ (c .before .before .before .if1 .taken) (sym (c .before .enum-told .given .1) ∙ c .before .before .before .before .before .before .tracking .ensures) (c .good-empty .ensures)
+    rule-yes (ruleIn (a .r .now)) (ruleOf (a .c .now) (a .ps .now)) _ _ (c .before .before .before .before .before .before .before .bucket .ensures) (c .before .before .before .before .good-level .ensures) _ _ (c .before .before .before .if1 .taken) (sym (c .before .enum-told .given .1) ∙ c .before .before .before .before .before .before .tracking .ensures) (c .good-empty .ensures)
 
 returns-2 : tie.Need-returns-2
 returns-2 c = let a = c .before .before .before .before .before .before .before .before .before .args in
-    rule-yes (a .r) (ruleOf (a .c .now) (a .ps .now)) _ _ (c .before .before .before .before .before .before .before .before .bucket .ensures) (c .before .before .before .before .before .good-level .ensures) _ _ (c .before .before .before .before .if1 .taken) (sym (c .before .before .k .given .1) ∙ c .before .before .before .before .before .before .before .tracking .ensures) (c .good-room .ensures)
+    rule-yes (ruleIn (a .r .now)) (ruleOf (a .c .now) (a .ps .now)) _ _ (c .before .before .before .before .before .before .before .before .bucket .ensures) (c .before .before .before .before .before .good-level .ensures) _ _ (c .before .before .before .before .if1 .taken) (sym (c .before .before .k .given .1) ∙ c .before .before .before .before .before .before .before .tracking .ensures) (c .good-room .ensures)
 
 returns-3 : tie.Need-returns-3
 returns-3 c = let a = c .before .before .before .before .before .args in
-    rule-no (a .r) (ruleOf (a .c .now) (a .ps .now)) _ _ (c .before .before .before .before .bucket .ensures) (c .before .good-level .ensures) (c .if1 .left)
+    rule-no (ruleIn (a .r .now)) (ruleOf (a .c .now) (a .ps .now)) _ _ (c .before .before .before .before .bucket .ensures) (c .before .good-level .ensures) (c .if1 .left)
 
 pub good-rule-spec : {M : Type 1} → statement M
 good-rule-spec =

@@ -3,6 +3,7 @@ use mathlib.Core.Path.{_≡_, sym, ap, _∙_}
 use mathlib.Core.Bool.{true}
 use Rattle.numbers.specs.Lists.{allBelow}
 use Rattle.numbers.proofs.Lists.{below-none, below-next, below-fails}
+use Rattle.table.specs.Words.{tableIn}
 use Rattle.records.proofs.GoodCode.{goodAt, rules-good}
 use borrow.Author.Needs.{needs}
 use native.Mathlib.Omega.{arith}
@@ -10,22 +11,22 @@ use Rattle.records.proofs.good.good_rules.Statement.{statement}
 use Rattle.records.proofs.good.good_rules.Tie as tie
 
 abbrev Inv-loop : tie.InvT-loop
-Inv-loop counts places t n i₀ i = (i ≤ 64) × (allBelow (goodAt t counts places) i ≡ true)
+Inv-loop t counts places n i₀ i = (i ≤ 64) × (allBelow (goodAt (tableIn t) counts places) i ≡ true)
 
 abbrev μ-loop : tie.MeasureT-loop
-μ-loop counts places t n i₀ i = 64 - i
+μ-loop t counts places n i₀ i = 64 - i
 
 rows-requires : tie.Need-rows-requires Inv-loop μ-loop
 rows-requires c κs = tt
 
+rows-requires-2 : tie.Need-rows-requires-2 Inv-loop μ-loop
+rows-requires-2 c κs = tt
+
+rulecount-requires : tie.Need-rulecount-requires Inv-loop μ-loop
+rulecount-requires c κs = tt
+
 loop-holds : tie.Need-loop-holds Inv-loop μ-loop
 loop-holds c = (omega arith, below-none _)
-
-mul-r : tie.Need-mul-r Inv-loop μ-loop
-mul-r c = search needs
-
-element-copy-out-r : tie.Need-element-copy-out-r Inv-loop μ-loop
-element-copy-out-r c = search needs
 
 mul-good-at : tie.Need-mul-good-at Inv-loop μ-loop
 mul-good-at c = search needs
@@ -39,6 +40,12 @@ mul-good-at-2 c = search needs
 index-1-good-at-2 : tie.Need-index-1-good-at-2 Inv-loop μ-loop
 index-1-good-at-2 c = search needs
 
+mul-good-at-3 : tie.Need-mul-good-at-3 Inv-loop μ-loop
+mul-good-at-3 c = search needs
+
+index-1-good-at-3 : tie.Need-index-1-good-at-3 Inv-loop μ-loop
+index-1-good-at-3 c = search needs
+
 good-at-requires : tie.Need-good-at-requires Inv-loop μ-loop
 good-at-requires c κs = tt
 
@@ -49,20 +56,20 @@ loop-less : tie.Need-loop-less Inv-loop μ-loop
 loop-less c = search needs
 
 loop-again : tie.Need-loop-again Inv-loop μ-loop
-loop-again c = let a = c .before .before .before .before .before .before .before .before .before .before .args in
-    let l = c .before .before .before .before .before .before .loop in
-    (omega arith, below-next _ (l .i) (l .inv .1) (sym (rules-good (a .t1) (a .counts .now) (a .places .now) (l .i) _ (omega arith) (c .before .good-at .ensures)) ∙ c .if1 .taken))
+loop-again c = let l = c .before .before .before .before .before .before in
+    let a = l .before .before .before .before .before .before .before .args in
+    (omega arith, below-next _ (l .loop .i) (l .loop .inv .1) (sym (rules-good (a .t .now) (a .counts .now) (a .places .now) _ (l .loop .i) _ (l .before .rulecount .ensures) (omega arith) (omega arith) (c .before .good-at .ensures)) ∙ c .if1 .taken))
 
 returns : tie.Need-returns Inv-loop μ-loop
-returns c = let a = c .before .before .before .before .before .before .before .before .before .before .args in
-    let l = c .before .before .before .before .before .before .loop in
-    sym (below-fails _ 64 (l .i) (omega arith) (sym (rules-good (a .t1) (a .counts .now) (a .places .now) (l .i) _ (omega arith) (c .before .good-at .ensures)) ∙ c .if1 .left))
+returns c = let l = c .before .before .before .before .before .before in
+    let a = l .before .before .before .before .before .before .before .args in
+    sym (below-fails _ 64 (l .loop .i) (omega arith) (sym (rules-good (a .t .now) (a .counts .now) (a .places .now) _ (l .loop .i) _ (l .before .rulecount .ensures) (omega arith) (omega arith) (c .before .good-at .ensures)) ∙ c .if1 .left))
 
 returns-2 : tie.Need-returns-2 Inv-loop μ-loop
-returns-2 c = let a = c .before .before .before .before .before .args in
-    let l = c .before .loop in
-    let e : l .i ≡ 64 = omega arith in
-    sym (l .inv .1) ∙ ap (allBelow (goodAt (a .t1) (a .counts .now) (a .places .now))) e
+returns-2 c = let l = c .before in
+    let a = l .before .before .before .before .before .before .before .args in
+    let e : l .loop .i ≡ 64 = omega arith in
+    sym (l .loop .inv .1) ∙ ap (allBelow (goodAt (tableIn (a .t .now)) (a .counts .now) (a .places .now))) e
 
 pub good-rules-spec : {M : Type 1} → statement M
 good-rules-spec =
@@ -71,13 +78,15 @@ good-rules-spec =
     Inv-loop
     μ-loop
     rows-requires
+    rows-requires-2
+    rulecount-requires
     loop-holds
-    mul-r
-    element-copy-out-r
     mul-good-at
     index-1-good-at
     mul-good-at-2
     index-1-good-at-2
+    mul-good-at-3
+    index-1-good-at-3
     good-at-requires
     add-i
     loop-less

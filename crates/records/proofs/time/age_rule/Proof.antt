@@ -3,6 +3,7 @@ use mathlib.Core.List.{map}
 use lib.ListN.{getD, set}
 use Rattle.table.specs.declared.Bucket.{Bucket}
 use Rattle.table.specs.declared.Tracking.{Tracking}
+use Rattle.table.specs.Words.{ruleIn}
 use Rattle.records.specs.Records.{placeOf}
 use Rattle.records.specs.Rule.{drained, agedPlaces}
 use Rattle.records.proofs.TimeLaws.{rule-aged}
@@ -33,13 +34,13 @@ age-places-requires c κs = search needs
 
 returns : tie.Need-returns
 returns c = let a = c .before .before .before .before .before .before .before .before .args in
-    rule-aged (a .elapsed) (a .r) (a .c .now) _ (a .ps .now) (a .ps .now) (c .before .before .before .before .three .ensures)
+    rule-aged (a .elapsed) (ruleIn (a .r .now)) (a .c .now) _ (a .ps .now) (a .ps .now) (c .before .before .before .before .three .ensures)
     (c .before .before .age-level .ensures ∙ ap (λ (k : Bucket). set (a .c .now) 0 (drained k (a .elapsed) (getD (a .c .now) 0 0))) (c .before .before .before .before .before .before .before .bucket .ensures))
     (ap (λ (k : Tracking). agedPlaces k (a .elapsed) (map placeOf (a .ps .now))) (sym (c .enum-told .given .1) ∙ c .before .before .before .before .before .before .tracking .ensures))
 
 returns-2 : tie.Need-returns-2
 returns-2 c = let a = c .before .before .before .before .before .before .before .before .before .before .before .args in
-    rule-aged (a .elapsed) (a .r) (a .c .now) _ (a .ps .now) (c .age-places .last .1 .1 .0) (c .before .before .before .before .before .before .before .three .ensures)
+    rule-aged (a .elapsed) (ruleIn (a .r .now)) (a .c .now) _ (a .ps .now) (c .age-places .last .1 .1 .0) (c .before .before .before .before .before .before .before .three .ensures)
     (c .before .before .before .before .before .age-level .ensures ∙ ap (λ (k : Bucket). set (a .c .now) 0 (drained k (a .elapsed) (getD (a .c .now) 0 0))) (c .before .before .before .before .before .before .before .before .before .before .bucket .ensures))
     (c .age-places .ensures ∙ ap (λ (k : Tracking). agedPlaces k (a .elapsed) (map placeOf (a .ps .now))) (sym (c .before .before .before .k .given .1) ∙ c .before .before .before .before .before .before .before .before .before .tracking .ensures))
 

@@ -1,3 +1,4 @@
+use Rattle.table.specs.Words.{tableIn}
 use Rattle.records.proofs.TimeLaws.{tick-still, tick-aged}
 use borrow.Author.Needs.{needs}
 use native.Mathlib.Omega.{arith}
@@ -18,14 +19,14 @@ element-write-head c = search needs
 
 returns : tie.Need-returns
 returns c = let a = c .before .before .before .before .before .args in
-    tick-still (a .t) (a .reading) _ (a .head .now) (omega arith) (c .before .elapsed-of .ensures) (a .counts .now) (a .places .now) (omega arith) (c .before .before .before .before .before .pre .1) (c .if1 .taken)
+    tick-still (tableIn (a .t .now)) (a .reading) _ (a .head .now) (omega arith) (c .before .elapsed-of .ensures) (a .counts .now) (a .places .now) (omega arith) (c .before .before .before .before .before .pre .1) (c .if1 .taken)
 
 age-rules-requires : tie.Need-age-rules-requires
 age-rules-requires c κs = search needs
 
 returns-2 : tie.Need-returns-2
 returns-2 c = let a = c .before .before .before .before .before .before .before .before .args in
-    tick-aged (a .t) (a .reading) _ (a .head .now) (omega arith) (c .before .before .before .before .elapsed-of .ensures) (a .counts .now) (a .places .now) _ _ (c .age-rules .ensures)
+    tick-aged (tableIn (a .t .now)) (a .reading) _ (a .head .now) (omega arith) (c .before .before .before .before .elapsed-of .ensures) (a .counts .now) (a .places .now) _ _ (c .age-rules .ensures)
 
 pub tick-spec : {M : Type 1} → statement M
 tick-spec =

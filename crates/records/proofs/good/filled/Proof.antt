@@ -1,7 +1,10 @@
-use Rattle.records.proofs.GoodCode.{fresh-words}
+use Rattle.records.proofs.GoodCode.{filled-words}
 use borrow.Author.Needs.{needs}
-use Rattle.records.proofs.good.is_fresh.Statement.{statement}
-use Rattle.records.proofs.good.is_fresh.Tie as tie
+use Rattle.records.proofs.good.filled.Statement.{statement}
+use Rattle.records.proofs.good.filled.Tie as tie
+
+five-requires : tie.Need-five-requires
+five-requires c κs = tt
 
 element-copy-out-result : tie.Need-element-copy-out-result
 element-copy-out-result c = search needs
@@ -19,12 +22,13 @@ element-copy-out-result-5 : tie.Need-element-copy-out-result-5
 element-copy-out-result-5 c = search needs
 
 returns : tie.Need-returns
-returns c = fresh-words (c .before .before .before .before .before .args .p .now)
+returns c = filled-words (c .before .before .before .before .before .before .before .args .p .now)
 
-pub is-fresh-spec : {M : Type 1} → statement M
-is-fresh-spec =
+pub filled-spec : {M : Type 1} → statement M
+filled-spec =
     tie.close
     (tie.spec
+    five-requires
     element-copy-out-result
     element-copy-out-result-2
     element-copy-out-result-3

@@ -1,0 +1,92 @@
+use Prim.Native.Nat.{ℕ, _+_, _-_, _≤_}
+use mathlib.Core.Path.{_≡_, refl, ap, _∙_}
+use mathlib.Core.List.{List, map}
+use lib.ListN.{length, take, drop, length-drop, length-set}
+use lib.Seq.{drop-set-add}
+use Rattle.table.specs.Table.{noState}
+use Rattle.table.specs.Words.{stateIn}
+use Rattle.lay.proofs.Packing.{laid-next, states-laid}
+use borrow.Author.Needs.{needs}
+use native.Mathlib.Omega.{arith}
+use Rattle.lay.proofs.states.Statement.{statement}
+use Rattle.lay.proofs.states.Tie as tie
+
+abbrev Inv-loop : tie.InvT-loop
+Inv-loop w₀ t k₀ w k = (k ≤ 8) × (length w ≡ 73) × (map stateIn (take k (drop 65 w)) ≡ take k (t .states))
+
+abbrev μ-loop : tie.MeasureT-loop
+μ-loop w₀ t k₀ w k = 8 - k
+
+full-requires : tie.Need-full-requires Inv-loop μ-loop
+full-requires c κs = search needs
+
+rows-requires : tie.Need-rows-requires Inv-loop μ-loop
+rows-requires c κs = search needs
+
+loop-holds : tie.Need-loop-holds Inv-loop μ-loop
+loop-holds c = (omega arith, c .rows .ensures, refl)
+
+mul-s : tie.Need-mul-s Inv-loop μ-loop
+mul-s c = search needs
+
+element-copy-out-s : tie.Need-element-copy-out-s Inv-loop μ-loop
+element-copy-out-s c = search needs
+
+state-requires : tie.Need-state-requires Inv-loop μ-loop
+state-requires c κs = search needs
+
+add-t10 : tie.Need-add-t10 Inv-loop μ-loop
+add-t10 c = search needs
+
+mul-t15 : tie.Need-mul-t15 Inv-loop μ-loop
+mul-t15 c = search needs
+
+element-set-from-w : tie.Need-element-set-from-w Inv-loop μ-loop
+element-set-from-w c = search needs
+
+add-k : tie.Need-add-k Inv-loop μ-loop
+add-k c = search needs
+
+loop-less : tie.Need-loop-less Inv-loop μ-loop
+loop-less c = search needs
+
+loop-again : tie.Need-loop-again Inv-loop μ-loop
+loop-again c =
+    let l = c .before .before .before in
+    let f = l .before .before .before in
+    let n : length (drop 65 (l .loop .w)) ≡ 8 = omega (arith, length-drop 65 (l .loop .w), l .loop .inv .1) in (
+      omega arith,
+      length-set (l .loop .w) (65 + l .loop .k) (c .state .result) ∙ l .loop .inv .1,
+      ap (λ (v : List (List ℕ)). map stateIn (take (l .loop .k + 1) v)) (drop-set-add 65 (l .loop .w) (l .loop .k) (c .state .result))
+          ∙ laid-next stateIn noState (drop 65 (l .loop .w)) (f .before .args .t1 .states) (l .loop .k) (c .state .result)
+          (omega (arith, n, c .before .before .loop-test .taken)) (omega (arith, f .full .ensures .1, c .before .before .loop-test .taken))
+          (l .loop .inv .2) (c .state .ensures),
+    )
+
+returns : tie.Need-returns Inv-loop μ-loop
+returns c =
+    let l = c .before in
+    let f = l .before .before .before in (
+      states-laid (l .loop .w) (f .before .args .t1 .states) (l .loop .k) (l .loop .inv .1) (f .full .ensures .1) (omega arith) (l .loop .inv .2),
+      l .loop .inv .1,
+    )
+
+pub states-spec : {M : Type 1} → statement M
+states-spec =
+    tie.close
+    (tie.spec
+    Inv-loop
+    μ-loop
+    full-requires
+    rows-requires
+    loop-holds
+    mul-s
+    element-copy-out-s
+    state-requires
+    add-t10
+    mul-t15
+    element-set-from-w
+    add-k
+    loop-less
+    loop-again
+    returns)
