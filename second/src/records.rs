@@ -70,6 +70,10 @@ impl Counts {
     }
 }
 
+/// Free places that are not as in a fresh record, and states that there are not, are looked for: no stream can say them, the lent words of the
+/// proved program can. Left out by the feature `as-written`, so that the cost of a frame can be compared with both.
+const WORDS: bool = !cfg!(feature = "as-written");
+
 /// How the places are held stands apart from the conversations, so that eight free places show in one look.
 #[derive(Clone, PartialEq, Eq, Debug)]
 pub struct Records {
@@ -114,7 +118,7 @@ impl Records {
     fn empty_from(&self, count: usize) -> bool {
         let levels = self.levels[count..].iter().fold(0, |any, level| any | level);
         let held = self.held[count..].iter().fold(0, |any, held| any | u64::from_ne_bytes(*held));
-        levels == 0 && held == 0 && self.conversations[count..].iter().fold(0, |any, row| any | filled(row)) == 0
+        levels == 0 && held == 0 && (!WORDS || self.conversations[count..].iter().fold(0, |any, row| any | filled(row)) == 0)
     }
 
     #[inline]
@@ -124,7 +128,7 @@ impl Records {
             return false;
         }
         if self.held[place] == [FREE; PLACES] {
-            return filled(&self.conversations[place]) == 0;
+            return !WORDS || filled(&self.conversations[place]) == 0;
         }
         self.good_conversations(place, rule)
     }
@@ -138,7 +142,7 @@ impl Records {
         let mut marks = [0; PLACES];
         // what a free place still holds, and a state that there is not
         let mut left = 0;
-        let mut bad = u64::from_ne_bytes(self.held[place]) & u64::from_ne_bytes([!CLOSING; PLACES]) != 0;
+        let mut bad = WORDS && u64::from_ne_bytes(self.held[place]) & u64::from_ne_bytes([!CLOSING; PLACES]) != 0;
         for slot in 0..PLACES {
             let conversation = &self.conversations[place][slot];
             let held = self.held[place][slot] != FREE;
@@ -146,7 +150,7 @@ impl Records {
             left |= if held { 0 } else { conversation.filled() };
             marks[slot] = if held { conversation.quadruple.mark() } else { slot as u32 };
         }
-        !bad && left == 0 && !(any_alike(&marks) && self.repeats(place))
+        !bad && (!WORDS || left == 0) && !(any_alike(&marks) && self.repeats(place))
     }
 
     /// The exact look, needed only where two marks are alike.

@@ -19,9 +19,20 @@ use layers::Someip;
 use layers::Tag;
 use layers::Transport;
 use numbers::wide64;
+use records::ACTIVE;
+use records::AGE;
+use records::BLOCKED;
 use records::Counts;
+use records::DEFAULT;
+use records::DESTINATION;
 use records::Head;
+use records::LAST;
+use records::LEVEL;
+use records::PASSED;
+use records::PORTS;
 use records::Places;
+use records::SOURCE;
+use records::STATE;
 use steps::Answer;
 
 fn byte(x: u8) -> u64 {
@@ -78,13 +89,14 @@ pub(crate) fn switched(answer: Switched, out: &mut [u8; 65536], used: &mut usize
 }
 
 pub(crate) fn judged(answer: Judged, space: [u8; 512], out: &mut [u8; 65536], used: &mut usize) {
-    match answer {
-        Judged::Refused(r) => {
-            refusal(r.number, r.place, out, used);
-            ended(&space, 0, out, used);
-        }
-        Judged::Answered(a) => answered(a, &space, out, used),
-    }
+    let Judged::Answered(a) = answer else {
+        let Judged::Refused(r) = answer else {
+            return;
+        };
+        refusal(r.number, r.place, out, used);
+        return ended(&space, 0, out, used);
+    };
+    answered(a, &space, out, used);
 }
 
 fn answered(a: Answer, space: &[u8; 512], out: &mut [u8; 65536], used: &mut usize) {
@@ -144,7 +156,7 @@ fn ended(space: &[u8; 512], length: usize, out: &mut [u8; 65536], used: &mut usi
 
 pub(crate) fn shown(answer: Shown, out: &mut [u8; 65536], used: &mut usize) {
     match answer {
-        Shown::Refused(r) => refusal(r.number, 0, out, used),
+        Shown::Refused(f) => refusal(f.number(), 0, out, used),
         Shown::Shows(l) => frame(l, out, used),
     }
     put(out, used, b'\n');
@@ -256,7 +268,7 @@ pub(crate) fn all_records(
     out: &mut [u8; 65536],
     used: &mut usize,
 ) -> bool {
-    line(b'P', &totals(head, &counts[64]), out, used);
+    line(b'P', &totals(head, &counts[DEFAULT]), out, used);
     let mut k = 0;
     while k < 64 {
         rule(k, &counts[k], &places[k], out, used);
@@ -275,7 +287,12 @@ fn line(letter: u8, numbers: &[u64], out: &mut [u8; 65536], used: &mut usize) {
 
 // Of the words of the records, and the default's counts.
 fn totals(head: &Head, counts: &[u32; 3]) -> [u64; 4] {
-    [head[0], head[1], wide64(counts[1]), wide64(counts[2])]
+    [
+        head[LAST],
+        head[ACTIVE],
+        wide64(counts[PASSED]),
+        wide64(counts[BLOCKED]),
+    ]
 }
 
 fn rule(
@@ -292,9 +309,9 @@ fn rule(
         b'p',
         &[
             count(k),
-            wide64(counts[0]),
-            wide64(counts[1]),
-            wide64(counts[2]),
+            wide64(counts[LEVEL]),
+            wide64(counts[PASSED]),
+            wide64(counts[BLOCKED]),
         ],
         out,
         used,
@@ -305,7 +322,7 @@ fn rule(
 fn conversations(k: usize, places: &[[u32; 5]; 8], out: &mut [u8; 65536], used: &mut usize) {
     let mut j = 0;
     while j < 8 {
-        if places[j][0] != 0 {
+        if places[j][STATE] != 0 {
             line(b'c', &conversation(k, j, &places[j]), out, used);
         }
         j += 1;
@@ -313,16 +330,16 @@ fn conversations(k: usize, places: &[[u32; 5]; 8], out: &mut [u8; 65536], used: 
 }
 
 fn conversation(k: usize, j: usize, place: &[u32; 5]) -> [u64; 8] {
-    let ports = place[3];
+    let ports = place[PORTS];
     [
         count(k),
         count(j),
-        wide64(place[1]),
-        wide64(place[2]),
+        wide64(place[SOURCE]),
+        wide64(place[DESTINATION]),
         wide64(ports / 65536),
         wide64(ports % 65536),
-        wide64(place[0]),
-        wide64(place[4]),
+        wide64(place[STATE]),
+        wide64(place[AGE]),
     ]
 }
 
@@ -330,10 +347,10 @@ fn conversation(k: usize, j: usize, place: &[u32; 5]) -> [u64; 8] {
 fn empty(counts: &[u32; 3], places: &[[u32; 5]; 8]) -> bool {
     let mut j = 0;
     while j < 8 {
-        if places[j][0] != 0 {
+        if places[j][STATE] != 0 {
             return false;
         }
         j += 1;
     }
-    (counts[0] == 0) & (counts[1] == 0) & (counts[2] == 0)
+    (counts[LEVEL] == 0) & (counts[PASSED] == 0) & (counts[BLOCKED] == 0)
 }

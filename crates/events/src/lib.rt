@@ -54,7 +54,7 @@ impl Event {
 
     pub const SOMEIP_MISMATCH: u16 = 56;
 
-    pub fn number(self) -> u16
+    pub(crate) fn number(self) -> u16
         ensures { λ r. ⌜ r ≡ numberOf self ⌝ }
     {
         match self {
@@ -70,7 +70,7 @@ impl Event {
     }
 
     // Two bytes of number, two of rule id, and the array.
-    pub fn length(self) -> usize
+    pub(crate) fn length(self) -> usize
         ensures { λ r. ⌜ r ≡ lengthOf self ⌝ }
     {
         match self {

@@ -8,12 +8,11 @@ use native.Mathlib.Omega.{arith}
 use borrow.Author.Tests.{lt-ltb, le-ltb}
 use lib.ListN.{length, set, length-set}
 use lib.Seq.{getD-set-same, getD-set-other}
-use Rattle.layers.specs.Layers.{numberOf}
 use Rattle.layers.specs.declared.Layers.{Layers}
-use Rattle.layers.specs.declared.Refusal.{Refusal as FrameRefusal}
+use Rattle.layers.specs.declared.FrameRefusal.{FrameRefusal}
 use Rattle.layers.specs.declared.Shown.{Shown}
 use Rattle.layers.specs.declared.Shown.the-variants as shown
-use Rattle.layers.specs.Layers.{shownOf}
+use Rattle.layers.specs.Layers.{refusalNumber, shownOf}
 use Rattle.table.specs.declared.Table.{Table}
 use Rattle.table.specs.declared.Fault.{Fault}
 use Rattle.table.specs.declared.Fault.the-variants as fault
@@ -137,8 +136,8 @@ module _ (t : Table) (w : Words) (a : Arrival) (space : List ℕ) where
   unfolding judgeOf
   judge-frame e = let g = checked-good t w e in rw (g .0, g .1)
 
-  pub frame-refused : (s : Shown) (r : FrameRefusal) → s ≡ shown.Refused r → refusedAs (refused (numberOf s) 0) w space ≡ afterFrame t w a space s
-  frame-refused s r e = rw e
+  pub frame-refused : (s : Shown) (f : FrameRefusal) → s ≡ shown.Refused f → refusedAs (refused (refusalNumber f) 0) w space ≡ afterFrame t w a space s
+  frame-refused s f e = rw e
 
   pub frame-tight : (s : Shown) (l : Layers) → s ≡ shown.Shows l → length space < 256 → refusedAs noSpace w space ≡ afterFrame t w a space s
   frame-tight s l e h = rw (e, lt-ltb (length space) 256 h)

@@ -5,7 +5,7 @@ use mathlib.Core.List.{List}
 use mathlib.Core.Bool.{cond}
 use lib.ListN.{length}
 use lib.Dec.{ltb}
-use Rattle.layers.specs.Layers.{shownOf}
+use Rattle.layers.specs.Layers.{refusalNumber, shownOf}
 use Rattle.layers.specs.declared.Shown.{Shown}
 use Rattle.layers.specs.declared.Shown.the-variants as shown
 use Rattle.table.specs.declared.Table.{Table}
@@ -109,7 +109,7 @@ abbrev pub refusedAs : Said → Words → List ℕ → After
 refusedAs x w space = record { said = x; words = w; space = space }
 
 abbrev pub afterFrame : Table → Words → Arrival → List ℕ → Shown → After
-afterFrame t w a space (shown.Refused r) = refusedAs (refused (r .number) 0) w space
+afterFrame t w a space (shown.Refused f) = refusedAs (refused (refusalNumber f) 0) w space
 afterFrame t w a space (shown.Shows l) =
     cond (ltb (length space) 256) (refusedAs noSpace w space) (judgedAs (outcomeOf t (recordsOf w) a l) space)
 

@@ -30,6 +30,7 @@ use records::shape::shape;
 use steps::Answer;
 use steps::step;
 use table::Fault;
+use table::Table;
 use table::faults::fault;
 use table::words::TableWords;
 use table::words::statecount;
@@ -123,9 +124,10 @@ fn judge_frame(
     requires { ⌜ recordsGood (tableIn (now t)) (recordsOf (words (now head) (now counts) (now places))) ≡ true ⌝ }
     ensures { λ r. ⌜ record { said = saidJudged r; words = words (now (head .exit)) (now (counts .exit)) (now (places .exit)); space = now (space .exit) } ≡ afterFrame (tableIn (now (t .entry))) (words (now (head .entry)) (now (counts .entry)) (now (places .entry))) (record { reading = reading; bytes = now (frame .entry) }) (now (space .entry)) (shownOf (now (frame .entry))) ⌝ }
 {
-    let shown = layers::read(frame);
-    let Shown::Shows(l) = shown else {
-        return Judged::Refused(Refusal::of_frame(shown));
+    // Not let .. else: it binds one case, here both hold something, and every way owes an answer.
+    let l = match layers::read(frame) {
+        Shown::Refused(f) => return Judged::Refused(Refusal::of_frame(f)),
+        Shown::Shows(l) => l,
     };
     if space.len() < 256 {
         return Judged::Refused(Refusal::no_space());
@@ -150,4 +152,25 @@ pub fn judge(
         return judge_frame(t, head, counts, places, frame, reading, space);
     };
     Judged::Refused(refusal)
+}
+
+// The same for a table by value, as callers write it: it is laid as words, and those are lent.
+pub fn judge_table(
+    t: Table,
+    head: &mut Head,
+    counts: &mut Counts,
+    places: &mut Places,
+    frame: &[u8],
+    reading: u64,
+    space: &mut [u8],
+) -> Judged
+    ensures { λ r. ⌜
+        record { said = saidJudged r; words = words (now (head .exit)) (now (counts .exit)) (now (places .exit)); space = now (space .exit) }
+        ≡ judgeOf t (words (now (head .entry)) (now (counts .entry)) (now (places .entry)))
+        (record { reading = reading; bytes = now (frame .entry) }) (now (space .entry))
+        ⌝ }
+{
+    let mut w: TableWords = [[0; 8]; 73];
+    lay::table(t, &mut w);
+    judge(&w, head, counts, places, frame, reading, space)
 }

@@ -1,7 +1,7 @@
 // The refusals of the paper.
 ghost use mathlib.Core.Path.{_≡_};
-ghost use Rattle.layers.specs.Layers.{numberOf};
-use layers::Shown;
+ghost use Rattle.layers.specs.Layers.{refusalNumber};
+use layers::FrameRefusal;
 
 // A refusal's number, and for a bad table the place of the first rule at fault, 64 for the states or the rule count; else 0.
 pub struct Refusal {
@@ -22,34 +22,25 @@ impl Refusal {
 
     pub const NO_SUCH_STATE: u8 = 6;
 
-    pub fn bad_table(place: usize) -> Refusal
-        ensures { λ r. ⌜ r ≡ record { number = 4; place = place } ⌝ }
+    pub(crate) fn too_short() -> Refusal
+        ensures { λ r. ⌜ r ≡ record { number = 1; place = 0 } ⌝ }
     {
         Refusal {
-            number: Refusal::BAD_TABLE,
-            place,
-        }
-    }
-
-    pub fn bad_record() -> Refusal
-        ensures { λ r. ⌜ r ≡ record { number = 5; place = 0 } ⌝ }
-    {
-        Refusal {
-            number: Refusal::BAD_RECORD,
+            number: Refusal::TOO_SHORT,
             place: 0,
         }
     }
 
-    pub fn no_such_state() -> Refusal
-        ensures { λ r. ⌜ r ≡ record { number = 6; place = 0 } ⌝ }
+    pub(crate) fn too_long() -> Refusal
+        ensures { λ r. ⌜ r ≡ record { number = 2; place = 0 } ⌝ }
     {
         Refusal {
-            number: Refusal::NO_SUCH_STATE,
+            number: Refusal::TOO_LONG,
             place: 0,
         }
     }
 
-    pub fn no_space() -> Refusal
+    pub(crate) fn no_space() -> Refusal
         ensures { λ r. ⌜ r ≡ record { number = 3; place = 0 } ⌝ }
     {
         Refusal {
@@ -58,19 +49,40 @@ impl Refusal {
         }
     }
 
-    // Hands on what reading the layers refused.
-    pub fn of_frame(shown: Shown) -> Refusal
-        ensures { λ r. ⌜ r ≡ record { number = numberOf shown; place = 0 } ⌝ }
+    pub(crate) fn bad_table(place: usize) -> Refusal
+        ensures { λ r. ⌜ r ≡ record { number = 4; place = place } ⌝ }
     {
-        match shown {
-            Shown::Refused(r) => Refusal {
-                number: r.number,
-                place: 0,
-            },
-            Shown::Shows(_) => Refusal {
-                number: 0,
-                place: 0,
-            },
+        Refusal {
+            number: Refusal::BAD_TABLE,
+            place,
+        }
+    }
+
+    pub(crate) fn bad_record() -> Refusal
+        ensures { λ r. ⌜ r ≡ record { number = 5; place = 0 } ⌝ }
+    {
+        Refusal {
+            number: Refusal::BAD_RECORD,
+            place: 0,
+        }
+    }
+
+    pub(crate) fn no_such_state() -> Refusal
+        ensures { λ r. ⌜ r ≡ record { number = 6; place = 0 } ⌝ }
+    {
+        Refusal {
+            number: Refusal::NO_SUCH_STATE,
+            place: 0,
+        }
+    }
+
+    // Hands on what reading the layers refused.
+    pub(crate) fn of_frame(f: FrameRefusal) -> Refusal
+        ensures { λ r. ⌜ r ≡ record { number = refusalNumber f; place = 0 } ⌝ }
+    {
+        match f {
+            FrameRefusal::TooShort => Refusal::too_short(),
+            FrameRefusal::TooLong => Refusal::too_long(),
         }
     }
 }

@@ -1,21 +1,31 @@
-// A rule, a state, a table laid into the words that are lent: what is laid is read back exactly.
+// A rule, a state, a table laid into the words that are lent: into the very words of Fields, which read back as what was laid.
 ghost use mathlib.Core.Path.{_≡_};
-ghost use mathlib.Core.Bool.{cond};
+ghost use mathlib.Core.List.{map};
 ghost use Prim.Native.Nat.{_+_, _*_, _^_, _<_};
-ghost use lib.ListN.{length};
+ghost use lib.ListN.{length, drop};
 ghost use Rattle.table.specs.Settings.{of8, of16, of32, of64};
-ghost use Rattle.table.specs.Words.{ruleIn, stateIn, tableIn};
-ghost use Rattle.lay.specs.Fields.{Laid, valueOr, actionCode, kindCode, rangeOr, prefixOr, linkMarks, ipv4Marks, transportMarks, someipMarks, limitMarks, headFields, linkFields, addressFields, portFields, someipFields, limitFields};
+ghost use Rattle.table.specs.Words.{actionCode, kindCode, ruleIn, stateIn, tableIn};
+ghost use Rattle.lay.specs.Fields.{Laid, LaidAs, valueOr, bitOf, kindOr, rangeOr, prefixOr};
+ghost use Rattle.lay.specs.Fields.{linkMarks, ipv4Marks, transportMarks, someipMarks, limitMarks};
+ghost use Rattle.lay.specs.Fields.{headFields, linkFields, addressFields, portFields, someipFields, limitFields};
+ghost use Rattle.lay.specs.Fields.{ruleWords, stateWords, tableWords};
 use table::settings::*;
 use table::words::*;
 use table::*;
 
+// The bit of a setting that is unset, or is not.
+fn bit(unset: bool) -> u64
+    ensures { λ r. ⌜ (r ≡ bitOf unset) × (r < 2) ⌝ }
+{
+    if unset { 0 } else { 1 }
+}
+
 // A field with what stands above it.
 fn mark(unset: bool, above: u64) -> u64
     requires { ⌜ above < 2 ^ 63 ⌝ }
-    ensures { λ r. ⌜ (r ≡ above * 2 + cond unset 0 1) × (cond unset 0 1 < 2) ⌝ }
+    ensures { λ r. ⌜ (r ≡ above * 2 + bitOf unset) × (bitOf unset < 2) ⌝ }
 {
-    if unset { above * 2 } else { above * 2 + 1 }
+    above * 2 + bit(unset)
 }
 
 fn field8(v: u8, above: u64) -> u64
@@ -97,16 +107,35 @@ fn prefix_value(s: PrefixSetting) -> Prefix
     }
 }
 
-fn action_code(a: Action) -> u8
-    ensures { λ r. ⌜ r ≡ actionCode a ⌝ }
+// The code of an action, and of a kind.
+fn action_code(a: Action) -> u64
+    ensures { λ r. ⌜ (r ≡ actionCode a) × (r < 256) ⌝ }
 {
-    if is_allow(a) { 0 } else { 1 }
+    match a {
+        Action::Allow => ALLOW,
+        Action::Block => BLOCK,
+        Action::Unknown => UNKNOWN,
+    }
 }
 
-fn kind_code(s: KindSetting) -> u8
-    ensures { λ r. ⌜ r ≡ kindCode s ⌝ }
+fn kind_code(k: Kind) -> u64
+    ensures { λ r. ⌜ (r ≡ kindCode k) × (r < 256) ⌝ }
 {
-    if is_tcp(s) { 1 } else { 0 }
+    match k {
+        Kind::Udp => UDP,
+        Kind::Tcp => TCP,
+        Kind::Unknown => UNKNOWN,
+    }
+}
+
+// The code of a kind, 0 where it is unset.
+fn kind_value(s: KindSetting) -> u64
+    ensures { λ r. ⌜ (r ≡ kindOr s) × (r < 256) ⌝ }
+{
+    match s {
+        KindSetting::Unset => 0,
+        KindSetting::Set(k) => kind_code(k),
+    }
 }
 
 // The marks of each layer, below those of the layers after it.
@@ -200,7 +229,10 @@ fn head_word(r: Rule) -> u64
     let marks = link_marks(link, ipv4_marks(ipv4, transport_marks(transport, m)));
     field16(
         r.id,
-        field8(action_code(action), field8(kind_code(kind), marks)),
+        field8(
+            action_code(action) as u8,
+            field8(kind_value(kind) as u8, marks),
+        ),
     )
 }
 
@@ -273,8 +305,8 @@ fn limit_word(s: RateSettings, m: TrackingSettings) -> u64
     )
 }
 
-pub fn rule(r: Rule) -> RuleWords
-    ensures { λ w. ⌜ ruleIn w ≡ r ⌝ }
+pub(crate) fn rule(r: Rule) -> RuleWords
+    ensures { λ w. ⌜ LaidAs ruleWords ruleIn r w ⌝ }
 {
     let link = r.link;
     let ipv4 = r.ipv4;
@@ -295,11 +327,11 @@ pub fn rule(r: Rule) -> RuleWords
     [w0, w1, w2, w3, w4, w5, w6, w7]
 }
 
-pub fn state(s: State) -> RuleWords
-    ensures { λ w. ⌜ stateIn w ≡ s ⌝ }
+pub(crate) fn state(s: State) -> RuleWords
+    ensures { λ w. ⌜ LaidAs stateWords stateIn s w ⌝ }
 {
     let default = s.default;
-    [action_code(default) as u64, s.marks, 0, 0, 0, 0, 0, 0]
+    [action_code(default), s.marks, 0, 0, 0, 0, 0, 0]
 }
 
 // A table by value has its number of rules and of states.
@@ -309,7 +341,7 @@ fn full(t: Table)
 
 // The rows of the states.
 fn states(t: Table, w: &mut TableWords)
-    ensures { λ r. ⌜ (tableIn (now (w .exit)) .states ≡ t .states) × (length (now (w .exit)) ≡ 73) ⌝ }
+    ensures { λ r. ⌜ LaidAs (map stateWords) (map stateIn) (t .states) (drop 65 (now (w .exit))) × (length (now (w .exit)) ≡ 73) ⌝ }
 {
     full(t);
     rows(*w);
@@ -322,7 +354,7 @@ fn states(t: Table, w: &mut TableWords)
 }
 
 pub fn table(t: Table, w: &mut TableWords)
-    ensures { λ r. ⌜ tableIn (now (w .exit)) ≡ t ⌝ }
+    ensures { λ r. ⌜ LaidAs tableWords tableIn t (now (w .exit)) ⌝ }
 {
     full(t);
     states(t, w);

@@ -38,10 +38,8 @@ use Rattle.layers.specs.Layers.{
   layersOf,
   tooShort,
   tooLong,
-  shortRefusal,
-  longRefusal,
+  refusalNumber,
   shownOf,
-  numberOf,
 }
 use Rattle.layers.specs.Inside.{
   TagInside,
@@ -54,6 +52,7 @@ use Rattle.layers.specs.Inside.{
   SomeipInside,
   Inside,
 }
+use Rattle.layers.specs.declared.FrameRefusal.the-variants as refusal
 use Rattle.layers.specs.declared.Link.{Link}
 use Rattle.layers.specs.declared.Packet.{Packet}
 use Rattle.layers.specs.declared.Ip.{Ip}
@@ -252,17 +251,22 @@ module _ (s : List ℕ) (l : Layers) (w : Inside s l) where
   pub message-inside : (m : Message) → l .someip ≡ someip.Present m → MessageInside s m
   message-inside m e = subst (SomeipInside s) e (w .someip)
 
--- ---- one answer for each frame
+-- ---- the refusals
 
-pub read-unique : (s : List ℕ) (r r' : Shown) → r ≡ shownOf s → r' ≡ shownOf s → r ≡ r'
-read-unique s r r' e f = e ∙ sym f
+-- the number that is said: 0 where the layers are shown
+abbrev pub numberOf : Shown → ℕ
+numberOf (shown.Refused r) = refusalNumber r
+numberOf (shown.Shows l) = 0
 
--- its number: 1 and 2 exactly when 01 says, 0 where the layers are shown
+-- 1 and 2 exactly when 01 says
 pub number-is : (s : List ℕ) → numberOf (shownOf s) ≡ cond (tooShort s) 1 (cond (tooLong s) 2 0)
 unfolding shownOf
 number-is s = go (tooShort s) (tooLong s)
   where
-    go : (a b : Bool) → numberOf (cond a (shown.Refused shortRefusal) (cond b (shown.Refused longRefusal) (shown.Shows (layersOf s)))) ≡ cond a 1 (cond b 2 0)
+    go :
+        (a b : Bool)
+        → numberOf (cond a (shown.Refused refusal.TooShort) (cond b (shown.Refused refusal.TooLong) (shown.Shows (layersOf s))))
+        ≡ cond a 1 (cond b 2 0)
     go true b = refl
     go false true = refl
     go false false = refl

@@ -21,7 +21,8 @@ use Rattle.layers.specs.declared.Message.{Message}
 use Rattle.layers.specs.declared.Someip.{Someip}
 use Rattle.layers.specs.declared.Someip.the-variants as someip
 use Rattle.layers.specs.declared.Layers.{Layers}
-use Rattle.layers.specs.declared.Refusal.{Refusal}
+use Rattle.layers.specs.declared.FrameRefusal.{FrameRefusal}
+use Rattle.layers.specs.declared.FrameRefusal.the-variants as refusal
 use Rattle.layers.specs.declared.Shown.{Shown}
 use Rattle.layers.specs.declared.Shown.the-variants as shown
 
@@ -178,22 +179,17 @@ layersOf s =
 unfoldable pub tooShort : List ℕ → Bool
 tooShort s = ltb (length s) 14 || (tagged s && ltb (length s) 18)
 
-abbrev pub shortRefusal : Refusal
-shortRefusal = record { number = 1 }
-
 -- 2: "frame over 1,518"
 abbrev pub tooLong : List ℕ → Bool
 tooLong s = ltb 1518 (length s)
 
-abbrev pub longRefusal : Refusal
-longRefusal = record { number = 2 }
+-- 01's number of each refusal
+abbrev pub refusalNumber : FrameRefusal → ℕ
+refusalNumber refusal.TooShort = 1
+refusalNumber refusal.TooLong = 2
 
 -- the answer: refusal 1, else refusal 2, else what the frame shows
 unfoldable pub shownOf : List ℕ → Shown
 shownOf s =
-    cond (tooShort s) (shown.Refused shortRefusal) (cond (tooLong s) (shown.Refused longRefusal) (shown.Shows (layersOf s)))
-
--- 01's number for each case of the answer: the refusal's, 0 where the layers are shown
-abbrev pub numberOf : Shown → ℕ
-numberOf (shown.Refused r) = r .number
-numberOf (shown.Shows l) = 0
+    cond (tooShort s) (shown.Refused refusal.TooShort)
+    (cond (tooLong s) (shown.Refused refusal.TooLong) (shown.Shows (layersOf s)))

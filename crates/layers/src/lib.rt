@@ -25,8 +25,7 @@ ghost use Rattle.layers.specs.Layers.{
   someipOf,
   layersOf,
   tooShort,
-  shortRefusal,
-  longRefusal,
+  refusalNumber,
   shownOf,
 };
 ghost use Rattle.layers.specs.Inside.{PacketInside, IpInside, TransportInside};
@@ -113,34 +112,29 @@ pub struct Layers {
     pub someip: Someip,
 }
 
-pub struct Refusal {
-    pub number: u8,
+// Why a frame is not read.
+pub enum FrameRefusal {
+    TooShort,
+    TooLong,
 }
 
-impl Refusal {
+impl FrameRefusal {
     pub const TOO_SHORT: u8 = 1;
 
     pub const TOO_LONG: u8 = 2;
 
-    pub fn too_short() -> Refusal
-        ensures { λ r. ⌜ r ≡ shortRefusal ⌝ }
+    pub fn number(self) -> u8
+        ensures { λ r. ⌜ r ≡ refusalNumber self ⌝ }
     {
-        Refusal {
-            number: Self::TOO_SHORT,
-        }
-    }
-
-    pub fn too_long() -> Refusal
-        ensures { λ r. ⌜ r ≡ longRefusal ⌝ }
-    {
-        Refusal {
-            number: Self::TOO_LONG,
+        match self {
+            FrameRefusal::TooShort => FrameRefusal::TOO_SHORT,
+            FrameRefusal::TooLong => FrameRefusal::TOO_LONG,
         }
     }
 }
 
 pub enum Shown {
-    Refused(Refusal),
+    Refused(FrameRefusal),
     Shows(Layers),
 }
 
@@ -436,10 +430,10 @@ pub fn read(frame: &[u8]) -> Shown
     ensures { λ r. ⌜ r ≡ shownOf (now (frame .entry)) ⌝ }
 {
     if is_short(frame) {
-        return Shown::Refused(Refusal::too_short());
+        return Shown::Refused(FrameRefusal::TooShort);
     }
     if 1518 < frame.len() {
-        return Shown::Refused(Refusal::too_long());
+        return Shown::Refused(FrameRefusal::TooLong);
     }
     Shown::Shows(read_layers(frame))
 }

@@ -3,7 +3,7 @@
 use Prim.Native.Nat.{ℕ, suc}
 use mathlib.Core.Path.{_≡_, refl, sym, ap, _∙_}
 use mathlib.Core.List.{List, [], _∷_}
-use mathlib.Core.Bool.{Bool, true, false, _||_, not, cond, false≢true, or-false, and-true}
+use mathlib.Core.Bool.{Bool, true, false, _||_, not, cond, or-false, and-true}
 use borrow.Author.Tests.{not-true, not-false}
 use lib.Dec.{eqb}
 use Rattle.numbers.specs.Lists.{every}
@@ -24,20 +24,17 @@ use Rattle.table.specs.declared.Ipv4Settings.{Ipv4Settings}
 use Rattle.table.specs.declared.TransportSettings.{TransportSettings}
 use Rattle.table.specs.declared.SomeipSettings.{SomeipSettings}
 use Rattle.table.specs.Settings.{
-  Setting,
-  unset,
-  set,
   of8,
   of16,
   ofKind,
   ofRange,
   ofPrefix,
-  isUnset,
   agrees,
   inRange,
   inPrefix,
   sameKind,
 }
+use Rattle.table.proofs.SettingLaws.{unset-agrees}
 use Rattle.matching.specs.Matching.{
   ipv4Unset,
   ipv4Agrees,
@@ -49,11 +46,6 @@ use Rattle.matching.specs.Matching.{
   messageAgrees,
   someipMatches,
 }
-
--- an unset setting agrees
-pub unset-agrees : {A X : Type 0} (f : A → X → Bool) (s : Setting A) (x : X) → isUnset s ≡ true → agrees f s x ≡ true
-unset-agrees f unset x e = refl
-unset-agrees f (set v) x e = absurd (false≢true e)
 
 -- each test of the first list that passes has its partner pass
 abbrev pub Partners : List Bool → List Bool → Type 0

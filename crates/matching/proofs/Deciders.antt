@@ -73,9 +73,11 @@ unfolding transportMatches
 tcp-transport r (transport.Tcp g) k e h m = (g, refl)
 tcp-transport r transport.Absent setKind.Unset e h m = absurd (false≢true h)
 tcp-transport r transport.Absent (setKind.Set kind.Udp) e h m = absurd (false≢true h)
+tcp-transport r transport.Absent (setKind.Set kind.Unknown) e h m = absurd (false≢true h)
 tcp-transport r transport.Absent (setKind.Set kind.Tcp) e h m = absurd (false≢true (rw e at m))
 tcp-transport r (transport.Udp u) setKind.Unset e h m = absurd (false≢true h)
 tcp-transport r (transport.Udp u) (setKind.Set kind.Udp) e h m = absurd (false≢true h)
+tcp-transport r (transport.Udp u) (setKind.Set kind.Unknown) e h m = absurd (false≢true h)
 tcp-transport r (transport.Udp u) (setKind.Set kind.Tcp) e h m = absurd (false≢true (rw e at m))
 
 pub matches-tcp :

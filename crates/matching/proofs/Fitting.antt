@@ -3,8 +3,8 @@
 use Prim.Native.Nat.{ℕ, zero, suc, _+_, _-_, _<_, _≤_, max}
 use mathlib.Core.Path.{_≡_, refl, sym, subst}
 use mathlib.Core.List.{List}
-use mathlib.Core.Bool.{Bool, true, false, cond}
-use native.Mathlib.Nat.{le-of-lt, max-eq-left, max-eq-right}
+use mathlib.Core.Bool.{Bool, true, false, cond, _&&_}
+use native.Mathlib.Nat.{le-of-lt, max-eq-left, max-eq-right, add-zero, add-assoc, add-sub-of-le}
 use native.Mathlib.Numerals.{add-one}
 use native.Mathlib.Omega.{arith}
 use borrow.Author.Tests.{eqb-true, eqb-false, eq-eqb, ne-eqb, ltb-true, ltb-false}
@@ -15,8 +15,9 @@ use Rattle.layers.specs.declared.Layers.{Layers}
 use Rattle.table.specs.declared.Table.{Table}
 use Rattle.table.specs.Table.{ruleAt, active}
 use Rattle.matching.specs.Matching.{ruleMatches, decides, deciderOf}
-use Rattle.matching.specs.Best.{scoreOf, greatest, bestOf}
+use Rattle.matching.specs.Best.{scoreOf, greatest, bestOf, decisionOf}
 use Rattle.matching.specs.declared.Best.{Best}
+use Rattle.matching.specs.declared.Decision.{Decision}
 use Rattle.matching.proofs.Deciders.{decider-is, decider-default, decider-small}
 use Rattle.matching.proofs.Leading.{leading-small, leading-short, leading-full}
 
@@ -78,6 +79,25 @@ pub fits-left :
     → Fits f (i + 1) place' most'
 fits-left f i place most n place' most' q e h a b = rw (a, b) (fits-same f i place most q (rw e at h))
 
+-- once no score is above the greatest, it stays
+fits-on : (f : ℕ → ℕ) (i place most k : ℕ) → ((j : ℕ) → f j ≤ most) → Fits f i place most → Fits f (i + k) place most
+fits-on f i place most zero h q = rw (add-zero i) q
+fits-on f i place most (suc k) h q =
+    rw (← add-one k, ← add-assoc i k 1) (fits-same f (i + k) place most (fits-on f i place most k h q) (h (i + k)))
+
+pub fits-end :
+    (f : ℕ → ℕ) (i n place most : ℕ) → ((j : ℕ) → f j ≤ 5) → i ≤ n → (ltb i n && ltb most 5) ≡ false → Fits f i place most
+    → Fits f n place most
+fits-end f i n place most h m e q = go (ltb i n) refl
+  where
+    go : (b : Bool) → ltb i n ≡ b → Fits f n place most
+    go true g =
+        let k : ltb most 5 ≡ false = rw g at e in
+        rw (← add-sub-of-le m) (fits-on f i place most (n - i) (λ j. omega (arith, h j, ltb-false most 5 k)) q)
+    go false g =
+        let k : i ≡ n = omega (arith, ltb-false i n g) in
+        rw k at q
+
 -- there is such a place
 fits : (f : ℕ → ℕ) (n : ℕ) → (place : ℕ) × Fits f n place (greatest f n)
 unfolding greatest
@@ -94,11 +114,7 @@ fits f (suc n) = go (fits f n) (ltb (greatest f n) (f n)) refl
 
 module _ (t : Table) (state : ℕ) (s : List ℕ) (l : Layers) where
   -- the best fit, as the loop has it at its end
-  none-fits : (place : ℕ) → Fits (scoreOf t state s l) (t .rulecount) place 0 → _≡_ {A = Best} (record { place = 64; layer = 0 }) (bestOf t state s l)
-  unfolding bestOf
-  none-fits place q = rw (← q .top)
-
-  best-fits :
+  pub best-fits :
       (place most : ℕ) → (most ≡ 0 → ⊥) → Fits (scoreOf t state s l) (t .rulecount) place most
       → _≡_ {A = Best} (record { place = place; layer = most - 1 }) (bestOf t state s l)
   unfolding bestOf
@@ -110,14 +126,10 @@ module _ (t : Table) (state : ℕ) (s : List ℕ) (l : Layers) where
       rw (← q .top, ne-eqb most 0 ne, p)
 
   pub fits-none :
-      (i place most : ℕ) → i ≡ t .rulecount → most ≡ 0 → Fits (scoreOf t state s l) i place most
+      (place most : ℕ) → most ≡ 0 → Fits (scoreOf t state s l) (t .rulecount) place most
       → _≡_ {A = Best} (record { place = 64; layer = 0 }) (bestOf t state s l)
-  fits-none i place most e z q = none-fits place (rw (e, z) at q)
-
-  pub fits-best :
-      (i place most : ℕ) → i ≡ t .rulecount → (most ≡ 0 → ⊥) → Fits (scoreOf t state s l) i place most
-      → _≡_ {A = Best} (record { place = place; layer = most - 1 }) (bestOf t state s l)
-  fits-best i place most e ne q = best-fits place most ne (rw e at q)
+  unfolding bestOf
+  fits-none place most z q = rw (← z, ← q .top) (rw z)
 
   -- the best fit is such a place
   best-none : greatest (scoreOf t state s l) (t .rulecount) ≡ 0 → bestOf t state s l ≡ record { place = 64; layer = 0 }
@@ -198,7 +210,7 @@ module _ (t : Table) (state : ℕ) (s : List ℕ) (l : Layers) where
       rw (m, p)
 
   -- the best fit decides where all four layers match
-  pub best-decides : t .rulecount ≤ 64 → cond (eqb (bestOf t state s l .layer) 4) (bestOf t state s l .place) 64 ≡ deciderOf t state s l
+  best-decides : t .rulecount ≤ 64 → cond (eqb (bestOf t state s l .layer) 4) (bestOf t state s l .place) 64 ≡ deciderOf t state s l
   best-decides small = go (eqb (deciderOf t state s l) 64) refl
     where
       go : (b : Bool) → eqb (deciderOf t state s l) 64 ≡ b → cond (eqb (bestOf t state s l .layer) 4) (bestOf t state s l .place) 64 ≡ deciderOf t state s l
@@ -209,3 +221,20 @@ module _ (t : Table) (state : ℕ) (s : List ℕ) (l : Layers) where
           let q = decider-is t state s l (deciderOf t state s l) refl (omega (arith, eqb-false (deciderOf t state s l) 64 e, decider-small t state s l small)) in
           rw (← best-full (deciderOf t state s l) (q .0) (score-matches (deciderOf t state s l) (q .1) (q .2))
           (λ j h. omega (arith, score-open j (q .3 j h))))
+
+  -- so it tells who does
+  pub best-whole :
+      (b : Best) → t .rulecount ≤ 64 → b ≡ bestOf t state s l → b .layer ≡ 4
+      → _≡_ {A = Decision} (record { decider = b .place; best = b }) (decisionOf t state s l)
+  best-whole b small e h = rw e (λ i. record { decider = told i; best = bestOf t state s l })
+    where
+      told : bestOf t state s l .place ≡ deciderOf t state s l
+      told = sym (rw (eq-eqb (bestOf t state s l .layer) 4 (rw e at h)) at (sym (best-decides small)))
+
+  pub best-part :
+      (b : Best) → t .rulecount ≤ 64 → b ≡ bestOf t state s l → (b .layer ≡ 4 → ⊥)
+      → _≡_ {A = Decision} (record { decider = 64; best = b }) (decisionOf t state s l)
+  best-part b small e h = rw e (λ i. record { decider = told i; best = bestOf t state s l })
+    where
+      told : 64 ≡ deciderOf t state s l
+      told = sym (rw (ne-eqb (bestOf t state s l .layer) 4 (rw e at h)) at (sym (best-decides small)))

@@ -8,8 +8,9 @@ use Rattle.numbers.specs.Lists.{first}
 use Rattle.layers.specs.declared.Layers.{Layers}
 use Rattle.table.specs.declared.Table.{Table}
 use Rattle.table.specs.Table.{ruleAt, active}
-use Rattle.matching.specs.Matching.{layerTests}
+use Rattle.matching.specs.Matching.{layerTests, deciderOf}
 use Rattle.matching.specs.declared.Best.{Best}
+use Rattle.matching.specs.declared.Decision.{Decision}
 
 -- "count the matching layers from link upward to the first that doesn't match"
 abbrev pub leading : List Bool → ℕ
@@ -34,3 +35,7 @@ bestOf t state s l =
     cond (eqb most 0)
     (record { place = 64; layer = 0 })
     (record { place = first (λ i. eqb (score i) most) (t .rulecount); layer = most - 1 })
+
+-- who decides, and who fits best
+abbrev pub decisionOf : Table → ℕ → List ℕ → Layers → Decision
+decisionOf t state s l = record { decider = deciderOf t state s l; best = bestOf t state s l }

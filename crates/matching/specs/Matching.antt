@@ -45,13 +45,15 @@ abbrev pub tagTests : LinkSettings → Tag → List Bool
 tagTests r tag.Untagged = isUnset (of16 (r .vlan)) ∷ isUnset (of8 (r .priority)) ∷ []
 tagTests r (tag.Tagged priority vlan) = agrees eqb (of16 (r .vlan)) vlan ∷ agrees eqb (of8 (r .priority)) priority ∷ []
 
-unfoldable pub linkMatches : LinkSettings → Link → Bool
-linkMatches r x =
-    every
-    (agrees eqb (of64 (r .destination)) (x .dst)
+abbrev pub linkTests : LinkSettings → Link → List Bool
+linkTests r x =
+    agrees eqb (of64 (r .destination)) (x .dst)
     ∷ agrees eqb (of64 (r .source)) (x .src)
     ∷ agrees eqb (of16 (r .ether)) (x .ether)
-    ∷ tagTests r (x .tag))
+    ∷ tagTests r (x .tag)
+
+unfoldable pub linkMatches : LinkSettings → Link → Bool
+linkMatches r x = every (linkTests r x)
 
 -- "A layer with no setting matches every frame, even one that lacks it; with any setting it matches only where the layer is present and every setting agrees"
 abbrev pub layerMatches : List Bool → Bool → Bool

@@ -40,11 +40,14 @@ pub(crate) fn agrees_kind(s: KindSetting, x: Kind) -> bool
             Kind::Tcp => match x {
                 Kind::Tcp => true,
                 Kind::Udp => false,
+                Kind::Unknown => false,
             },
             Kind::Udp => match x {
                 Kind::Tcp => false,
                 Kind::Udp => true,
+                Kind::Unknown => false,
             },
+            Kind::Unknown => false,
         },
     }
 }

@@ -1,12 +1,11 @@
 // Who decides, and who fits best.
 ghost use mathlib.Core.Path.{_≡_};
 ghost use mathlib.Core.Bool.{cond};
-ghost use lib.Dec.{eqb};
 ghost use Prim.Native.Nat.{suc, _<_, _≤_};
 ghost use Rattle.table.specs.Table.{marked as markedAt};
 ghost use Rattle.table.specs.Words.{ruleIn, tableIn};
 ghost use Rattle.matching.specs.Matching.{layerTests};
-ghost use Rattle.matching.specs.Best.{leading, bestOf};
+ghost use Rattle.matching.specs.Best.{leading, bestOf, decisionOf};
 use crate::rules::*;
 use crate::*;
 use layers::*;
@@ -24,8 +23,8 @@ pub(crate) fn score(r: &RuleWords, marks: u64, i: usize, s: &[u8], l: Layers) ->
     layers_matched(r, s, l) + 1
 }
 
-// The first of the active rules with the greatest score. None is greater than that of a rule that matches, so none behind one is looked at.
-pub fn best_fit(t: &TableWords, state: usize, s: &[u8], l: Layers) -> Best
+// The first of the active rules with the greatest score. None is above that of a rule that matches, so none behind one is looked at.
+fn best_fit(t: &TableWords, state: usize, s: &[u8], l: Layers) -> Best
     requires { ⌜ (state < 8) × (tableIn (now t) .rulecount ≤ 64) ⌝ }
     ensures { λ r. ⌜ r ≡ bestOf (tableIn (now (t .entry))) state (now (s .entry)) l ⌝ }
 {
@@ -35,11 +34,8 @@ pub fn best_fit(t: &TableWords, state: usize, s: &[u8], l: Layers) -> Best
     let mut place = 64;
     let mut most = 0;
     let mut i = 0;
-    while i < count {
+    while (i < count) & (most < 5) {
         let n = score(&t[i], marks, i, s, l);
-        if n == 5 {
-            return Best { place: i, layer: 4 };
-        }
         if most < n {
             place = i;
             most = n;
@@ -58,9 +54,12 @@ pub fn best_fit(t: &TableWords, state: usize, s: &[u8], l: Layers) -> Best
     }
 }
 
-// The rule that decides, or 64 for the default: the best fit decides where all four layers match.
-pub fn decider(best: Best) -> usize
-    ensures { λ d. ⌜ d ≡ cond (eqb (best .layer) 4) (best .place) 64 ⌝ }
+// Who decides is told by the best fit, so that one walk finds both: it decides where all four layers match.
+pub fn decide(t: &TableWords, state: usize, s: &[u8], l: Layers) -> Decision
+    requires { ⌜ (state < 8) × (tableIn (now t) .rulecount ≤ 64) ⌝ }
+    ensures { λ r. ⌜ r ≡ decisionOf (tableIn (now (t .entry))) state (now (s .entry)) l ⌝ }
 {
-    if best.layer == 4 { best.place } else { 64 }
+    let best = best_fit(t, state, s, l);
+    let decider = if best.layer == 4 { best.place } else { 64 };
+    Decision { decider, best }
 }

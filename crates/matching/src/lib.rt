@@ -8,3 +8,9 @@ pub struct Best {
     pub place: usize,
     pub layer: usize,
 }
+
+// The place of the rule that decides, 64 for the default, and the best fit.
+pub struct Decision {
+    pub decider: usize,
+    pub best: Best,
+}

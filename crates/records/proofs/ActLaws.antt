@@ -7,14 +7,13 @@ use mathlib.Core.List.{List, [], _∷_, map}
 use lib.ListN.{length, getD, set, List·getD-eq-default}
 use native.Mathlib.Omega.{arith}
 use Rattle.table.specs.declared.Action.{Action}
-use Rattle.table.specs.declared.Action.the-variants as action
 use Rattle.table.specs.declared.Fault.the-variants as fault
 use Rattle.table.specs.declared.Room.{Room}
 use Rattle.table.specs.declared.Rule.{Rule}
 use Rattle.table.specs.declared.Table.{Table}
 use Rattle.table.specs.declared.Tracking.{Tracking}
 use Rattle.table.specs.declared.Tracking.the-variants as tracking
-use Rattle.table.specs.Table.{ruleAt, stateAt, bucketOf, trackingOf, freshId, faultOf}
+use Rattle.table.specs.Table.{ruleAt, stateAt, isAllow, bucketOf, trackingOf, freshId, faultOf}
 use Rattle.table.proofs.Good.{good-rule, good-tracking}
 use Rattle.records.specs.declared.Segment.{Segment}
 use Rattle.records.specs.Records.{Place, RuleRecord, noRecord, placeOf, ruleOf, rulesOf, recordsOf, words}
@@ -54,15 +53,15 @@ good-room t e d h =
 -- ---- step 4
 
 module _ (r : Rule) (g : Segment) (l : ℕ) (ps : List Place) (x : Tracked) where
-  pub decide-block : r .action ≡ action.Block → x ≡ record { verdict = blockedByRule; places = ps } → x ≡ decided r g l ps
+  pub decide-block : isAllow (r .action) ≡ false → x ≡ record { verdict = blockedByRule; places = ps } → x ≡ decided r g l ps
   unfolding decided
   decide-block h s = rw h s
 
-  pub decide-over : r .action ≡ action.Allow → over (bucketOf r) l ≡ true → x ≡ record { verdict = overRate; places = ps } → x ≡ decided r g l ps
+  pub decide-over : isAllow (r .action) ≡ true → over (bucketOf r) l ≡ true → x ≡ record { verdict = overRate; places = ps } → x ≡ decided r g l ps
   unfolding decided bucketOf
   decide-over h o s = rw (h, o) s
 
-  pub decide-track : r .action ≡ action.Allow → over (bucketOf r) l ≡ false → x ≡ tracked (trackingOf r) g ps → x ≡ decided r g l ps
+  pub decide-track : isAllow (r .action) ≡ true → over (bucketOf r) l ≡ false → x ≡ tracked (trackingOf r) g ps → x ≡ decided r g l ps
   unfolding decided bucketOf trackingOf
   decide-track h o s = rw (h, o) s
 

@@ -17,6 +17,7 @@ use crate::*;
 use table::Action;
 use table::Bucket;
 use table::Tracking;
+use table::settings::is_allow;
 use table::words;
 use table::words::RuleWords;
 use table::words::TableWords;
@@ -30,19 +31,16 @@ fn decide(r: &RuleWords, b: Bucket, g: Segment, level: u32, ps: &mut RowWords) -
     requires { ⌜ (b ≡ bucketOf (ruleIn (now r))) × (placesIn (trackingOf (ruleIn (now r))) ≤ 8) ⌝ }
     ensures { λ v. ⌜ trackedAs (v .number) (now (ps .exit)) ≡ decided (ruleIn (now (r .entry))) g level (map placeOf (now (ps .entry))) ⌝ }
 {
-    let action = rule_action(r);
-    match action {
-        Action::Block => Verdict::blocked_by_rule(),
-        Action::Allow => {
-            if is_over(b, level) {
-                return Verdict::over_rate();
-            }
-            let k = tracking(r);
-            match k {
-                Tracking::Unset => Verdict::allowed(),
-                Tracking::Set(m) => track(m, g, ps),
-            }
-        }
+    if !is_allow(rule_action(r)) {
+        return Verdict::blocked_by_rule();
+    }
+    if is_over(b, level) {
+        return Verdict::over_rate();
+    }
+    let k = tracking(r);
+    match k {
+        Tracking::Unset => Verdict::allowed(),
+        Tracking::Set(m) => track(m, g, ps),
     }
 }
 
@@ -68,10 +66,10 @@ fn fall_back(a: Action, c: &mut CountWords) -> Verdict
 fn default_verdict(a: Action) -> Verdict
     ensures { λ v. ⌜ v .number ≡ defaultVerdict a ⌝ }
 {
-    match a {
-        Action::Allow => Verdict::allowed_by_default(),
-        Action::Block => Verdict::blocked_by_default(),
+    if is_allow(a) {
+        return Verdict::allowed_by_default();
     }
+    Verdict::blocked_by_default()
 }
 
 // Steps 3 to 5 of the decider at d.

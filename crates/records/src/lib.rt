@@ -2,8 +2,8 @@
 pub mod act;
 pub mod fresh;
 pub mod good;
-pub mod rate;
-pub mod scan;
+mod rate;
+mod scan;
 pub mod shape;
 pub mod time;
 pub mod track;

@@ -52,7 +52,7 @@ fn read_places(words: RowWords) -> [Conversation; 8]
     places
 }
 
-pub fn load(row: &RowWords) -> [Conversation; 8]
+pub(crate) fn load(row: &RowWords) -> [Conversation; 8]
     ensures { λ r. ⌜ map placeIn r ≡ map placeOf (now (row .entry)) ⌝ }
 {
     read_places(*row)
@@ -70,7 +70,7 @@ fn place_if(here: bool, i: usize, before: usize) -> usize
 }
 
 // One place is seen, at i, after what was found before it.
-pub fn seen(c: Conversation, q: Quad, found: Found, i: usize) -> Found
+pub(crate) fn seen(c: Conversation, q: Quad, found: Found, i: usize) -> Found
     ensures { λ r. ⌜ r ≡ seenBy q c i found ⌝ }
 {
     let vacant = c.state == 0;
@@ -83,7 +83,7 @@ pub fn seen(c: Conversation, q: Quad, found: Found, i: usize) -> Found
 }
 
 // The walk: the places in their order, each seen once.
-pub fn scan(places: &[Conversation], q: Quad) -> Found
+pub(crate) fn scan(places: &[Conversation], q: Quad) -> Found
     ensures { λ r. ⌜ r ≡ scanOf q (now (places .entry)) ⌝ }
 {
     let n = places.len();
@@ -97,13 +97,13 @@ pub fn scan(places: &[Conversation], q: Quad) -> Found
 }
 
 // Lends its own array, so that callers hand the places by value and need no walk.
-pub fn scan_in(places: [Conversation; 8], q: Quad) -> Found
+pub(crate) fn scan_in(places: [Conversation; 8], q: Quad) -> Found
     ensures { λ r. ⌜ r ≡ scanOf q places ⌝ }
 {
     scan(&places[..], q)
 }
 
-pub fn find(q: Quad, row: &RowWords) -> Found
+pub(crate) fn find(q: Quad, row: &RowWords) -> Found
     ensures { λ r. ⌜
         (r .held ≡ heldAt q (map placeOf (now (row .entry))))
         × (r .free ≡ first (λ j. isFree (getD (map placeOf (now (row .entry))) j free)) 8)

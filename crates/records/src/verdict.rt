@@ -30,7 +30,7 @@ impl Verdict {
 
     pub const BLOCKED_BY_DEFAULT: u8 = 6;
 
-    pub fn allowed() -> Verdict
+    pub(crate) fn allowed() -> Verdict
         ensures { λ r. ⌜ r .number ≡ allowed ⌝ }
     {
         Verdict {
@@ -38,7 +38,7 @@ impl Verdict {
         }
     }
 
-    pub fn allowed_by_default() -> Verdict
+    pub(crate) fn allowed_by_default() -> Verdict
         ensures { λ r. ⌜ r .number ≡ allowedByDefault ⌝ }
     {
         Verdict {
@@ -46,7 +46,7 @@ impl Verdict {
         }
     }
 
-    pub fn blocked_by_rule() -> Verdict
+    pub(crate) fn blocked_by_rule() -> Verdict
         ensures { λ r. ⌜ r .number ≡ blockedByRule ⌝ }
     {
         Verdict {
@@ -54,7 +54,7 @@ impl Verdict {
         }
     }
 
-    pub fn over_rate() -> Verdict
+    pub(crate) fn over_rate() -> Verdict
         ensures { λ r. ⌜ r .number ≡ overRate ⌝ }
     {
         Verdict {
@@ -62,7 +62,7 @@ impl Verdict {
         }
     }
 
-    pub fn wrong_step() -> Verdict
+    pub(crate) fn wrong_step() -> Verdict
         ensures { λ r. ⌜ r .number ≡ wrongStep ⌝ }
     {
         Verdict {
@@ -70,7 +70,7 @@ impl Verdict {
         }
     }
 
-    pub fn no_place_free() -> Verdict
+    pub(crate) fn no_place_free() -> Verdict
         ensures { λ r. ⌜ r .number ≡ noPlaceFree ⌝ }
     {
         Verdict {
@@ -78,7 +78,7 @@ impl Verdict {
         }
     }
 
-    pub fn blocked_by_default() -> Verdict
+    pub(crate) fn blocked_by_default() -> Verdict
         ensures { λ r. ⌜ r .number ≡ blockedByDefault ⌝ }
     {
         Verdict {
@@ -87,7 +87,7 @@ impl Verdict {
     }
 
     // Verdicts 0 and 1.
-    pub fn passes(self) -> bool
+    pub(crate) fn passes(self) -> bool
         ensures { λ r. ⌜ r ≡ passes (self .number) ⌝ }
     {
         self.number < Verdict::BLOCKED_BY_RULE

@@ -2,7 +2,7 @@
 -- Assumes nothing.
 use Prim.Native.Nat.{ℕ, zero, suc, _+_, _*_, _<_, _≤_}
 use mathlib.Core.Path.{_≡_, refl, sym, ap, _∙_}
-use mathlib.Core.Bool.{Bool, true, false, cond, _||_, true≢false}
+use mathlib.Core.Bool.{Bool, true, false, _||_, true≢false}
 use mathlib.Core.List.{List, [], _++_}
 use native.Mathlib.Omega.{arith}
 use borrow.Author.Tests.{lt-ltb, le-ltb, ltb-true, ltb-false, eq-eqb, ne-eqb, eqb-false}
@@ -31,7 +31,6 @@ use Rattle.matching.specs.Matching.{deciderOf}
 use Rattle.matching.specs.Best.{scoreOf, greatest, bestOf}
 use Rattle.matching.specs.declared.Best.{Best}
 use Rattle.matching.proofs.Deciders.{decider-is}
-use Rattle.matching.proofs.Fitting.{best-decides}
 use Rattle.records.specs.declared.FlagKind.{FlagKind}
 use Rattle.records.specs.declared.Segment.{Segment}
 use Rattle.records.specs.Records.{Words, Records, recordsOf, wordsOf, Shaped, ShapedRecords}
@@ -50,12 +49,6 @@ use Rattle.steps.specs.Steps.{Arrival, segmentOf, idAt, bestEvent, event
 -- a decider is a rule of the table, or the default
 pub decider-rule : (t : Table) (state : ℕ) (s : List ℕ) (l : Layers) → Decider t (deciderOf t state s l)
 decider-rule t state s l h = decider-is t state s l (deciderOf t state s l) refl h .0
-
--- the best fit tells who decides
-pub decided :
-    (t : Table) (state : ℕ) (s : List ℕ) (l : Layers) (b : Best) (d : ℕ) → t .rulecount ≤ 64 → b ≡ bestOf t state s l
-    → d ≡ cond (eqb (b .layer) 4) (b .place) 64 → d ≡ deciderOf t state s l
-decided t state s l b d h e f = f ∙ ap (λ (b : Best). cond (eqb (b .layer) 4) (b .place) 64) e ∙ best-decides t state s l h
 
 -- a good rule has at most eight places
 tracks : (r : Rule) (fresh : Bool) → every (ruleTests fresh r) ≡ true → (k : Tracking) → trackingOf r ≡ k → placesIn k ≤ 8

@@ -29,8 +29,7 @@ use layers::Ip;
 use layers::Layers;
 use layers::Transport;
 use matching::Best;
-use matching::deciding::best_fit;
-use matching::deciding::decider;
+use matching::deciding::decide;
 use numbers::wide32;
 use records::ACTIVE;
 use records::Counts;
@@ -75,7 +74,7 @@ fn no_segment() -> Segment
 }
 
 // What tracking looks at: addresses, ports and flags of a TCP segment.
-pub fn segment(ip: Ip, t: Transport) -> Segment
+pub(crate) fn segment(ip: Ip, t: Transport) -> Segment
     ensures { λ r. ⌜ r ≡ segmentOf ip t ⌝ }
 {
     let Ip::V4(p) = ip else {
@@ -189,8 +188,9 @@ pub fn step(
     let ip = l.ip;
     let transport = l.transport;
     let g = segment(ip, transport);
-    let best = best_fit(t, state, frame, l);
-    let d = decider(best);
+    let decision = decide(t, state, frame, l);
+    let best = decision.best;
+    let d = decision.decider;
     tick(t, reading, head, counts, places);
     let v = act(t, g, d, head, counts, places);
     shape(*head, *counts, *places);

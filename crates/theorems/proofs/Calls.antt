@@ -2,7 +2,7 @@
 use Prim.Native.Nat.{ℕ, _<_, _≤_}
 use native.Mathlib.Omega.{arith}
 use mathlib.Core.Logic.{_⊎_, inl, inr}
-use mathlib.Core.Path.{_≡_, refl, ap, _∙_}
+use mathlib.Core.Path.{_≡_, refl, ap, subst, _∙_}
 use mathlib.Core.Bool.{Bool, true, false, cond}
 use mathlib.Core.List.{List}
 use lib.ListN.{length}
@@ -10,7 +10,7 @@ use lib.Dec.{ltb}
 use borrow.Author.Tests.{ltb-true, ltb-false, le-ltb}
 use Rattle.numbers.specs.Lists.{first}
 use Rattle.numbers.proofs.Lists.{cond-both}
-use Rattle.layers.specs.Layers.{shownOf}
+use Rattle.layers.specs.Layers.{refusalNumber, shownOf}
 use Rattle.layers.specs.declared.Layers.{Layers}
 use Rattle.layers.specs.declared.Shown.{Shown}
 use Rattle.layers.specs.declared.Shown.the-variants as shown
@@ -154,42 +154,45 @@ good-or-refused t w s = table (faultOf t) refl
     table (fault.At place) e = inr (record { number = 4; place = place; all = λ a space. rw e })
     table fault.Good e = records (recordsGood t (recordsOf w)) refl e
 
--- what holds of every refusal, and of every judged frame at two readings, holds after every call at these readings
+-- what holds of every refusal, and of every judged frame at two readings, from words that are good or bad alike,
+-- holds after every call at these readings
 pub judge-two :
-    (t : Table) (w : Words) (bytes space : List ℕ) (n m : ℕ) (P : After → After → Type 0)
-    → ((k place : ℕ) → P (refusedAs (refused k place) w space) (refusedAs (refused k place) w space))
-    → ((l : Layers) → faultOf t ≡ fault.Good → recordsGood t (recordsOf w) ≡ true → shownOf bytes ≡ shown.Shows l → 256 ≤ length space
-    → P (judgedAs (outcomeOf t (recordsOf w) (arrival n bytes) l) space) (judgedAs (outcomeOf t (recordsOf w) (arrival m bytes) l) space))
-    → P (judgeOf t w (arrival n bytes) space) (judgeOf t w (arrival m bytes) space)
+    (t : Table) (v w : Words) (bytes space : List ℕ) (n m : ℕ) (P : After → After → Type 0)
+    → recordsGood t (recordsOf v) ≡ recordsGood t (recordsOf w)
+    → ((k place : ℕ) → P (refusedAs (refused k place) v space) (refusedAs (refused k place) w space))
+    → ((l : Layers) → faultOf t ≡ fault.Good → recordsGood t (recordsOf v) ≡ true → shownOf bytes ≡ shown.Shows l → 256 ≤ length space
+    → P (judgedAs (outcomeOf t (recordsOf v) (arrival n bytes) l) space) (judgedAs (outcomeOf t (recordsOf w) (arrival m bytes) l) space))
+    → P (judgeOf t v (arrival n bytes) space) (judgeOf t w (arrival m bytes) space)
 unfolding judgeOf
-judge-two t w bytes space n m P bad well = table (faultOf t) refl
+judge-two t v w bytes space n m P same bad well = table (faultOf t) refl
   where
     room :
-        (l : Layers) → shownOf bytes ≡ shown.Shows l → faultOf t ≡ fault.Good → recordsGood t (recordsOf w) ≡ true → (b : Bool)
+        (l : Layers) → shownOf bytes ≡ shown.Shows l → faultOf t ≡ fault.Good → recordsGood t (recordsOf v) ≡ true → (b : Bool)
         → ltb (length space) 256 ≡ b
-        → P (cond b (refusedAs noSpace w space) (judgedAs (outcomeOf t (recordsOf w) (arrival n bytes) l) space))
+        → P (cond b (refusedAs noSpace v space) (judgedAs (outcomeOf t (recordsOf v) (arrival n bytes) l) space))
         (cond b (refusedAs noSpace w space) (judgedAs (outcomeOf t (recordsOf w) (arrival m bytes) l) space))
     room l q e h true k = bad 3 0
     room l q e h false k = well l e h q (ltb-false (length space) 256 k)
 
-    frame : (x : Shown) → shownOf bytes ≡ x → faultOf t ≡ fault.Good → recordsGood t (recordsOf w) ≡ true
-        → P (afterFrame t w (arrival n bytes) space x) (afterFrame t w (arrival m bytes) space x)
-    frame (shown.Refused r) q e h = bad (r .number) 0
+    frame : (x : Shown) → shownOf bytes ≡ x → faultOf t ≡ fault.Good → recordsGood t (recordsOf v) ≡ true
+        → P (afterFrame t v (arrival n bytes) space x) (afterFrame t w (arrival m bytes) space x)
+    frame (shown.Refused f) q e h = bad (refusalNumber f) 0
     frame (shown.Shows l) q e h = room l q e h (ltb (length space) 256) refl
 
-    on : ℕ → Bool → After
-    on k b = cond b (afterFrame t w (arrival k bytes) space (shownOf bytes)) (refusedAs badRecord w space)
+    on : Words → ℕ → Bool → After
+    on u k b = cond b (afterFrame t u (arrival k bytes) space (shownOf bytes)) (refusedAs badRecord u space)
 
-    records : (b : Bool) → recordsGood t (recordsOf w) ≡ b → faultOf t ≡ fault.Good → P (on n b) (on m b)
+    records : (b : Bool) → recordsGood t (recordsOf v) ≡ b → faultOf t ≡ fault.Good → P (on v n b) (on w m b)
     records true h e = frame (shownOf bytes) refl e h
     records false h e = bad 5 0
 
-    call : ℕ → Fault → After
-    call k f = ifTable f (λ place. refusedAs (badTable place) w space) (on k (recordsGood t (recordsOf w)))
+    call : Words → ℕ → Fault → After
+    call u k f = ifTable f (λ place. refusedAs (badTable place) u space) (on u k (recordsGood t (recordsOf u)))
 
-    table : (f : Fault) → faultOf t ≡ f → P (call n f) (call m f)
+    table : (f : Fault) → faultOf t ≡ f → P (call v n f) (call w m f)
     table (fault.At place) e = bad 4 place
-    table fault.Good e = records (recordsGood t (recordsOf w)) refl e
+    table fault.Good e =
+        subst (λ b. P (on v n (recordsGood t (recordsOf v))) (on w m b)) same (records (recordsGood t (recordsOf v)) refl e)
 
 -- and after every call
 pub judge-by :
@@ -198,46 +201,58 @@ pub judge-by :
     → ((l : Layers) → faultOf t ≡ fault.Good → P (judgedAs (outcomeOf t (recordsOf w) a l) space))
     → P (judgeOf t w a space)
 judge-by t w a space P bad well =
-    judge-two t w (a .bytes) space (a .reading) (a .reading) (λ x y. P x) bad (λ l e h q r. well l e)
+    judge-two t w w (a .bytes) space (a .reading) (a .reading) (λ x y. P x) refl bad (λ l e h q r. well l e)
 
 -- ---- the calls fresh and switch
 
-module _ (t : Table) (n : ℕ) (w : Words) where
-  pub start-by :
-      (P : Left → Type 0) → ((place : ℕ) → P (record { said = badTable place; words = w }))
-      → (faultOf t ≡ fault.Good → P (record { said = done; words = wordsOf (freshOf n) })) → P (startOf t n w)
-  unfolding startOf
-  start-by P bad well = table (faultOf t) refl
-    where
-      table : (f : Fault) → faultOf t ≡ f
-          → P (ifTable f (λ place. record { said = badTable place; words = w }) (record { said = done; words = wordsOf (freshOf n) }))
-      table (fault.At place) e = bad place
-      table fault.Good e = well e
+pub start-by :
+    (t : Table) (n : ℕ) (w : Words) (P : Left → Type 0) → ((place : ℕ) → P (record { said = badTable place; words = w }))
+    → (faultOf t ≡ fault.Good → P (record { said = done; words = wordsOf (freshOf n) })) → P (startOf t n w)
+unfolding startOf
+start-by t n w P bad well = table (faultOf t) refl
+  where
+    table : (f : Fault) → faultOf t ≡ f
+        → P (ifTable f (λ place. record { said = badTable place; words = w }) (record { said = done; words = wordsOf (freshOf n) }))
+    table (fault.At place) e = bad place
+    table fault.Good e = well e
 
-  pub switch-by :
-      (P : Left → Type 0) → ((m place : ℕ) → P (record { said = refused m place; words = w }))
-      → (faultOf t ≡ fault.Good → recordsGood t (recordsOf w) ≡ true → n < t .statecount
-      → P (record { said = done; words = wordsOf (switchedTo n (recordsOf w)) }))
-      → P (switchOf t n w)
-  unfolding switchOf
-  switch-by P bad well = table (faultOf t) refl
-    where
-      state : Bool → Left
-      state b = cond b (record { said = done; words = wordsOf (switchedTo n (recordsOf w)) }) (record { said = noSuchState; words = w })
+-- a switch, from words that are good or bad alike
+pub switch-two :
+    (t : Table) (n : ℕ) (v w : Words) (P : Left → Left → Type 0) → recordsGood t (recordsOf v) ≡ recordsGood t (recordsOf w)
+    → ((m place : ℕ) → P (record { said = refused m place; words = v }) (record { said = refused m place; words = w }))
+    → (faultOf t ≡ fault.Good → recordsGood t (recordsOf v) ≡ true → n < t .statecount
+    → P (record { said = done; words = wordsOf (switchedTo n (recordsOf v)) })
+    (record { said = done; words = wordsOf (switchedTo n (recordsOf w)) }))
+    → P (switchOf t n v) (switchOf t n w)
+unfolding switchOf
+switch-two t n v w P same bad well = table (faultOf t) refl
+  where
+    state : Words → Bool → Left
+    state u b = cond b (record { said = done; words = wordsOf (switchedTo n (recordsOf u)) }) (record { said = noSuchState; words = u })
 
-      records : Bool → Left
-      records b = cond b (state (ltb n (t .statecount))) (record { said = badRecord; words = w })
+    records : Words → Bool → Left
+    records u b = cond b (state u (ltb n (t .statecount))) (record { said = badRecord; words = u })
 
-      by-state : (b : Bool) → ltb n (t .statecount) ≡ b → faultOf t ≡ fault.Good → recordsGood t (recordsOf w) ≡ true → P (state b)
-      by-state true m e h = well e h (ltb-true n (t .statecount) m)
-      by-state false m e h = bad 6 0
+    call : Words → Fault → Left
+    call u f = ifTable f (λ place. record { said = badTable place; words = u }) (records u (recordsGood t (recordsOf u)))
 
-      by-records : (b : Bool) → recordsGood t (recordsOf w) ≡ b → faultOf t ≡ fault.Good → P (records b)
-      by-records true h e = by-state (ltb n (t .statecount)) refl e h
-      by-records false h e = bad 5 0
+    by-state :
+        (b : Bool) → ltb n (t .statecount) ≡ b → faultOf t ≡ fault.Good → recordsGood t (recordsOf v) ≡ true → P (state v b) (state w b)
+    by-state true m e h = well e h (ltb-true n (t .statecount) m)
+    by-state false m e h = bad 6 0
 
-      table :
-          (f : Fault) → faultOf t ≡ f
-          → P (ifTable f (λ place. record { said = badTable place; words = w }) (records (recordsGood t (recordsOf w))))
-      table (fault.At place) e = bad 4 place
-      table fault.Good e = by-records (recordsGood t (recordsOf w)) refl e
+    by-records : (b : Bool) → recordsGood t (recordsOf v) ≡ b → faultOf t ≡ fault.Good → P (records v b) (records w b)
+    by-records true h e = by-state (ltb n (t .statecount)) refl e h
+    by-records false h e = bad 5 0
+
+    table : (f : Fault) → faultOf t ≡ f → P (call v f) (call w f)
+    table (fault.At place) e = bad 4 place
+    table fault.Good e =
+        subst (λ b. P (records v (recordsGood t (recordsOf v))) (records w b)) same (by-records (recordsGood t (recordsOf v)) refl e)
+
+pub switch-by :
+    (t : Table) (n : ℕ) (w : Words) (P : Left → Type 0) → ((m place : ℕ) → P (record { said = refused m place; words = w }))
+    → (faultOf t ≡ fault.Good → recordsGood t (recordsOf w) ≡ true → n < t .statecount
+    → P (record { said = done; words = wordsOf (switchedTo n (recordsOf w)) }))
+    → P (switchOf t n w)
+switch-by t n w P bad well = switch-two t n w w (λ x y. P x) refl bad well

@@ -1,71 +1,250 @@
 -- What the clock can change. Assumes nothing.
-use Prim.Native.Nat.{ℕ, _≤_}
+use Prim.Native.Nat.{ℕ, _+_, _-_}
 use native.Mathlib.Omega.{arith}
-use mathlib.Core.Path.{_≡_, refl, sym, ap, subst, _∙_}
-use mathlib.Core.Bool.{true}
-use mathlib.Core.List.{List}
+use mathlib.Core.Path.{_≡_, refl, sym, ap, ap₂, subst, _∙_}
+use mathlib.Core.List.{List, [], _∷_, map}
 use lib.ListN.{length}
+use Rattle.numbers.specs.Lists.{each}
 use Rattle.layers.specs.declared.Layers.{Layers}
 use Rattle.table.specs.declared.Table.{Table}
-use Rattle.table.specs.declared.Fault.the-variants as fault
-use Rattle.table.specs.Table.{faultOf}
+use Rattle.table.specs.Table.{rulesOf}
 use Rattle.matching.specs.Matching.{deciderOf}
 use Rattle.records.specs.declared.Segment.{Segment}
-use Rattle.records.specs.Records.{Records, Words, recordsOf, wordsOf, recordAt}
+use Rattle.records.specs.Records.{RuleRecord, Records, Words, recordsOf, wordsOf, recordAt, Shaped, ShapedRecords}
+use Rattle.records.specs.Rule.{aged}
 use Rattle.records.specs.Good.{recordsGood}
-use Rattle.records.specs.Step.{ticked, acted}
-use Rattle.records.proofs.GoodLaws.{withLast, ticked-back, at-plain}
-use Rattle.steps.specs.Steps.{segmentOf, idAt, eventOf, Outcome, outcomeOf, written}
-use Rattle.firewall.specs.Firewall.{answered, After, judgedAs}
-use Rattle.theorems.specs.Run.{arrival, Told, Good}
-use Rattle.theorems.specs.Statements.{SameButLast, ClockBack, Plain, ClockFree}
-use Rattle.theorems.proofs.Calls.{reach, outcome-reach, outcome-state, outcome-back, answer, judge-two}
-
--- ---- a clock that went back
-
-outcome-still :
-    (t : Table) (s : Records) (n : ℕ) (bytes : List ℕ) (l : Layers) → faultOf t ≡ fault.Good → recordsGood t s ≡ true → n ≤ s .last
-    → outcomeOf t s (arrival n bytes) l ≡ reach t (s .state) bytes l (withLast s n)
-outcome-still t s n bytes l e h m = outcome-reach t s (arrival n bytes) l ∙ ap (reach t (s .state) bytes l) (ticked-back t n s e h m)
-
--- the outcome at a reading that is not above the last, as its words say it
-module _ (t : Table) (w : Words) (n : ℕ) (bytes : List ℕ) (l : Layers)
-    (e : faultOf t ≡ fault.Good) (g : Good t w) (m : n ≤ recordsOf w .last) where
-  abbrev at : Outcome
-  at = outcomeOf t (recordsOf w) (arrival n bytes) l
-
-  back-answer : (space : List ℕ) → answer at space ≡ answer (reach t (recordsOf w .state) bytes l (recordsOf w)) space
-  back-answer space = ap (λ o. answer o space) (outcome-still t (recordsOf w) n bytes l e (g .good) m)
-
-  back-state : recordsOf (wordsOf (at .records)) .state ≡ recordsOf w .state
-  back-state = ap (λ z. z .state) (outcome-back t w (arrival n bytes) l (g .shaped)) ∙ outcome-state t (recordsOf w) (arrival n bytes) l
-
-  back-rules : recordsOf (wordsOf (at .records)) .rules ≡ reach t (recordsOf w .state) bytes l (recordsOf w) .records .rules
-  unfolding acted
-  back-rules =
-      ap (λ z. z .rules) (outcome-back t w (arrival n bytes) l (g .shaped))
-      ∙ ap (λ (o : Outcome). o .records .rules) (outcome-still t (recordsOf w) n bytes l e (g .good) m)
-
-judged-back :
-    (t : Table) (w : Words) (n k : ℕ) (bytes space : List ℕ) (l : Layers) → faultOf t ≡ fault.Good → Good t w
-    → n ≤ recordsOf w .last → k ≤ recordsOf w .last
-    → SameButLast (judgedAs (outcomeOf t (recordsOf w) (arrival n bytes) l) space)
-    (judgedAs (outcomeOf t (recordsOf w) (arrival k bytes) l) space)
-judged-back t w n k bytes space l e g m h = record {
-  said = ap (λ (x : Told). x .said) told;
-  space = ap (λ (x : Told). x .space) told;
-  state = back-state t w n bytes l e g m ∙ sym (back-state t w k bytes l e g h);
-  rules = back-rules t w n bytes l e g m ∙ sym (back-rules t w k bytes l e g h);
+use Rattle.records.specs.Step.{switchedTo, ticked, acted}
+use Rattle.records.proofs.GoodLaws.{at-plain, switch-shaped}
+use Rattle.records.proofs.WordLaws.{records-back, records-shaped}
+use Rattle.steps.specs.Steps.{Arrival, segmentOf, idAt, eventOf, Outcome, outcomeOf, written}
+use Rattle.firewall.specs.Firewall.{answered, After, Left, switchOf, judgeOf}
+use Rattle.theorems.specs.Run.{arrival, Item, arrives, switches, go, Told, tell}
+use Rattle.theorems.specs.Statements.{isAnswer}
+use Rattle.theorems.specs.Clock.{
+  ButLast,
+  SameButLast,
+  ClockBack,
+  Plain,
+  ClockFree,
+  AlikeCall,
+  AlikeRun,
+  ElapsedOnly,
+  later,
+  ClockReset,
 }
-  where
-    told : answer (outcomeOf t (recordsOf w) (arrival n bytes) l) space ≡ answer (outcomeOf t (recordsOf w) (arrival k bytes) l) space
-    told = back-answer t w n bytes l e g m space ∙ sym (back-answer t w k bytes l e g h space)
+use Rattle.theorems.proofs.Calls.{
+  reach,
+  outcome-last,
+  outcome-back,
+  outcome-shaped,
+  answer,
+  judge-two,
+  judge-by,
+  switch-two,
+}
+use Rattle.theorems.proofs.Kept.{go-shaped}
+
+-- ---- the same elapsed time
+
+-- goodness does not look at the last reading
+good-alike : (t : Table) (v w : Words) → ButLast v w → recordsGood t (recordsOf v) ≡ recordsGood t (recordsOf w)
+unfolding recordsGood
+good-alike t v w b = λ i. recordsGood t (record { last = 0; state = b .state i; rules = b .rules i })
+
+-- words of records that differ in the last reading alone
+words-alike :
+    (s u : Records) → ShapedRecords s → ShapedRecords u → s .state ≡ u .state → s .rules ≡ u .rules → ButLast (wordsOf s) (wordsOf u)
+words-alike s u h k p q = record {
+  state = ap (λ z. z .state) (records-back s h) ∙ p ∙ sym (ap (λ z. z .state) (records-back u k));
+  rules = ap (λ z. z .rules) (records-back s h) ∙ q ∙ sym (ap (λ z. z .rules) (records-back u k));
+}
+
+-- two frames of the same bytes after the same elapsed time
+module _ (t : Table) (v w : Words) (n m : ℕ) (bytes : List ℕ) (l : Layers) (b : ButLast v w)
+    (e : n - recordsOf v .last ≡ m - recordsOf w .last) where
+  abbrev from : Words → ℕ → Outcome
+  from u k = outcomeOf t (recordsOf u) (arrival k bytes) l
+
+  -- the records aged by a time, at a last reading that nothing looks at
+  abbrev aged-by : ℕ → ℕ → List RuleRecord → Records
+  aged-by time state rules = record { last = 0; state = state; rules = each (aged time) (rulesOf t) rules }
+
+  answer-alike : (space : List ℕ) → answer (from v n) space ≡ answer (from w m) space
+  unfolding outcomeOf ticked
+  answer-alike space = λ i. answer (reach t (b .state i) bytes l (aged-by (e i) (b .state i) (b .rules i))) space
+
+  outcome-alike : Shaped v → Shaped w → ButLast (wordsOf (from v n .records)) (wordsOf (from w m .records))
+  unfolding outcomeOf ticked acted
+  outcome-alike h k =
+      words-alike (from v n .records) (from w m .records)
+      (outcome-shaped t (recordsOf v) (arrival n bytes) l (records-shaped v h))
+      (outcome-shaped t (recordsOf w) (arrival m bytes) l (records-shaped w k))
+      (b .state)
+      (λ i. reach t (b .state i) bytes l (aged-by (e i) (b .state i) (b .rules i)) .records .rules)
+
+judge-alike :
+    (t : Table) (v w : Words) (n m : ℕ) (bytes space : List ℕ) → Shaped v → Shaped w → ButLast v w
+    → n - recordsOf v .last ≡ m - recordsOf w .last
+    → SameButLast (judgeOf t v (arrival n bytes) space) (judgeOf t w (arrival m bytes) space)
+judge-alike t v w n m bytes space h k b e =
+    judge-two t v w bytes space n m SameButLast (good-alike t v w b)
+    (λ number place. record { said = refl; space = refl; words = b })
+    (λ l f g q r. record {
+      said = ap (λ (x : Told). x .said) (answer-alike t v w n m bytes l b e space);
+      space = ap (λ (x : Told). x .space) (answer-alike t v w n m bytes l b e space);
+      words = outcome-alike t v w n m bytes l b e h k;
+    })
 
 pub clock-back : ClockBack
 clock-back t w n bytes space s m =
-    judge-two t w bytes space n (recordsOf w .last) SameButLast
-    (λ k place. record { said = refl; space = refl; state = refl; rules = refl })
-    (λ l e h q r. judged-back t w n (recordsOf w .last) bytes space l e (record { shaped = s; good = h }) m (omega arith))
+    judge-alike t w w n (recordsOf w .last) bytes space s s (record { state = refl; rules = refl }) (omega arith)
+
+-- ---- a run
+
+switch-alike : (t : Table) (n : ℕ) (v w : Words) → Shaped v → Shaped w → ButLast v w
+    → (switchOf t n v .said ≡ switchOf t n w .said) × ButLast (switchOf t n v .words) (switchOf t n w .words)
+unfolding switchedTo
+switch-alike t n v w h k b =
+    switch-two t n v w (λ (x y : Left). (x .said ≡ y .said) × ButLast (x .words) (y .words)) (good-alike t v w b)
+    (λ number place. (refl, b))
+    (λ e g m. (
+      refl,
+      words-alike (switchedTo n (recordsOf v)) (switchedTo n (recordsOf w)) (switch-shaped n (recordsOf v) (records-shaped v h))
+          (switch-shaped n (recordsOf w) (records-shaped w k))
+          refl
+          (b .rules),
+    ))
+
+frame-alike :
+    (t : Table) (v w : Words) (a c : Arrival) (space room : List ℕ) → Shaped v → Shaped w → ButLast v w
+    → AlikeCall v w (arrives a space) (arrives c room)
+    → SameButLast (judgeOf t v a space) (judgeOf t w c room)
+frame-alike t v w a c space room h k b p =
+    subst (λ z. SameButLast (judgeOf t v a space) (judgeOf t w c z)) (p .1)
+    (subst (λ z. SameButLast (judgeOf t v a space) (judgeOf t w (arrival (c .reading) z) space)) (p .0)
+    (judge-alike t v w (a .reading) (c .reading) (a .bytes) space h k b (p .2)))
+
+go-alike : (t : Table) (v w : Words) (x y : Item) → Shaped v → Shaped w → ButLast v w → AlikeCall v w x y
+    → (tell t v x ≡ tell t w y) × ButLast (go t v x) (go t w y)
+unfolding go tell
+go-alike t v w (arrives a space) (arrives c room) h k b p =
+    let s = frame-alike t v w a c space room h k b p in
+    (λ i. record { said = s .said i; space = s .space i }, s .words)
+go-alike t v w (arrives a space) (switches n) h k b p = absurd p
+go-alike t v w (switches n) (arrives c room) h k b p = absurd p
+go-alike t v w (switches n) (switches m) h k b p =
+    subst (λ z. (tell t v (switches n) ≡ tell t w (switches z)) × ButLast (go t v (switches n)) (go t w (switches z))) p
+    (let s = switch-alike t n v w h k b in (λ i. record { said = s .0 i; space = [] }, s .1))
+
+pub elapsed-only : ElapsedOnly
+elapsed-only t v w [] [] h k b p = (refl, b)
+elapsed-only t v w [] (y ∷ ys) h k b p = absurd p
+elapsed-only t v w (x ∷ xs) [] h k b p = absurd p
+elapsed-only t v w (x ∷ xs) (y ∷ ys) h k b p =
+    let one = go-alike t v w x y h k b (p .0) in
+    let rest = elapsed-only t (go t v x) (go t w y) xs ys (go-shaped t v x h) (go-shaped t w y k) (one .1) (p .1) in
+    (ap₂ _∷_ (one .0) (rest .0), rest .1)
+
+-- ---- a clock that was reset
+
+-- the reading becomes the last
+outcome-reading :
+    (t : Table) (w : Words) (a : Arrival) (l : Layers) → Shaped w
+    → recordsOf (wordsOf (outcomeOf t (recordsOf w) a l .records)) .last ≡ a .reading
+outcome-reading t w a l h = ap (λ z. z .last) (outcome-back t w a l h) ∙ outcome-last t (recordsOf w) a l
+
+judged-last :
+    (t : Table) (w : Words) (a : Arrival) (space : List ℕ) → Shaped w → isAnswer (judgeOf t w a space .said) ≡ 1
+    → recordsOf (judgeOf t w a space .words) .last ≡ a .reading
+judged-last t w a space h =
+    judge-by t w a space (λ (x : After). isAnswer (x .said) ≡ 1 → recordsOf (x .words) .last ≡ a .reading)
+    (λ k place e. absurd (omega arith))
+    (λ l e f. outcome-reading t w a l h)
+
+-- two words at clocks that are n apart
+record Shifted (n : ℕ) (v w : Words) : Type 0 where
+  left : Shaped v
+  right : Shaped w
+  same : ButLast v w
+  last : recordsOf w .last ≡ recordsOf v .last + n
+
+module _ (t : Table) (n : ℕ) where
+  switch-last :
+      (v w : Words) (state : ℕ) → Shifted n v w
+      → recordsOf (switchOf t state w .words) .last ≡ recordsOf (switchOf t state v .words) .last + n
+  unfolding switchedTo
+  switch-last v w state d =
+      switch-two t state v w (λ (x y : Left). recordsOf (y .words) .last ≡ recordsOf (x .words) .last + n) (good-alike t v w (d .same))
+      (λ number place. d .last)
+      (λ e g m. last-of w (d .right) ∙ d .last ∙ sym (ap (λ z. z + n) (last-of v (d .left))))
+    where
+      last-of : (u : Words) → Shaped u → recordsOf (wordsOf (switchedTo state (recordsOf u))) .last ≡ recordsOf u .last
+      last-of u h = ap (λ z. z .last) (records-back (switchedTo state (recordsOf u)) (switch-shaped state (recordsOf u) (records-shaped u h)))
+
+  frame-last :
+      (v w : Words) (a : Arrival) (space : List ℕ) → Shifted n v w
+      → recordsOf (judgeOf t w (arrival (a .reading + n) (a .bytes)) space .words) .last
+      ≡ recordsOf (judgeOf t v a space .words) .last + n
+  frame-last v w a space d =
+      judge-two t v w (a .bytes) space (a .reading) (a .reading + n)
+      (λ (x y : After). recordsOf (y .words) .last ≡ recordsOf (x .words) .last + n) (good-alike t v w (d .same))
+      (λ number place. d .last)
+      (λ l e g q r.
+      outcome-reading t w (arrival (a .reading + n) (a .bytes)) l (d .right)
+      ∙ sym (ap (λ z. z + n) (outcome-reading t v a l (d .left))))
+
+  call-alike : (v w : Words) (x : Item) → Shifted n v w → AlikeCall v w x (later n x)
+  call-alike v w (arrives a space) d = (refl, refl, let h = d .last in omega arith)
+  call-alike v w (switches state) d = refl
+
+  -- alike calls keep them so, where the last readings stay n apart
+  after-alike :
+      (v w : Words) (x y : Item) → Shaped v → Shaped w → ButLast v w → AlikeCall v w x y
+      → recordsOf (go t w y) .last ≡ recordsOf (go t v x) .last + n
+      → Shifted n (go t v x) (go t w y)
+  after-alike v w x y h k b p e =
+      record { left = go-shaped t v x h; right = go-shaped t w y k; same = go-alike t v w x y h k b p .1; last = e }
+
+  call-last : (v w : Words) (x : Item) → Shifted n v w → recordsOf (go t w (later n x)) .last ≡ recordsOf (go t v x) .last + n
+  unfolding go
+  call-last v w (arrives a space) d = frame-last v w a space d
+  call-last v w (switches state) d = switch-last v w state d
+
+  run-alike : (v w : Words) (items : List Item) → Shifted n v w → AlikeRun t v w items (map (later n) items)
+  run-alike v w [] d = tt
+  run-alike v w (x ∷ items) d =
+      let p = call-alike v w x d in
+      let e = after-alike v w x (later n x) (d .left) (d .right) (d .same) p (call-last v w x d) in
+      (p, run-alike (go t v x) (go t w (later n x)) items e)
+
+pub clock-reset : ClockReset
+unfolding go
+clock-reset t w a space items h m judged =
+    elapsed-only t w w (x ∷ items) (map (later n) (x ∷ items)) h h same
+    (first, run-alike t n (go t w x) (go t w y) items (after-alike t n w w x y h h same first last))
+  where
+    n : ℕ
+    n = recordsOf w .last - a .reading
+
+    b : Arrival
+    b = arrival (a .reading + n) (a .bytes)
+
+    x : Item
+    x = arrives a space
+
+    y : Item
+    y = arrives b space
+
+    same : ButLast w w
+    same = record { state = refl; rules = refl }
+
+    first : AlikeCall w w x y
+    first = (refl, refl, omega arith)
+
+    last : recordsOf (judgeOf t w b space .words) .last ≡ recordsOf (judgeOf t w a space .words) .last + n
+    last =
+        judged-last t w b space h (ap isAnswer (sym (frame-alike t w w a b space space h h same first .said)) ∙ judged)
+        ∙ sym (ap (λ z. z + n) (judged-last t w a space h judged))
 
 -- ---- a decider that does not look at the clock
 
@@ -89,7 +268,7 @@ plain-answer t s bytes space l p n m =
 
 pub clock-free : ClockFree
 clock-free t w bytes space l q p n m =
-    judge-two t w bytes space n m (λ (x y : After). (x .said ≡ y .said) × (x .space ≡ y .space))
+    judge-two t w w bytes space n m (λ (x y : After). (x .said ≡ y .said) × (x .space ≡ y .space)) refl
     (λ k place. (refl, refl))
     (λ j e h r room.
     let same : j ≡ l = cc in

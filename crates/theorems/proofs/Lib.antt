@@ -4,5 +4,6 @@ pub mod Kept
 pub mod Swap
 pub mod Counts
 pub mod Clock
+pub mod Passes
 pub mod Same
 pub mod Worked

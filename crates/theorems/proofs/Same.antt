@@ -2,7 +2,10 @@
 use Prim.Native.Nat.{ℕ}
 use mathlib.Core.Path.{_≡_, refl, sym, ap, _∙_}
 use mathlib.Core.List.{List}
-use Rattle.records.specs.Records.{Words}
+use Rattle.records.specs.Records.{Words, wordsOf}
+use Rattle.records.specs.declared.verdict.Verdict.{Verdict}
+use Rattle.records.proofs.WordLaws.{words-back}
+use Rattle.steps.specs.Steps.{Stepped, steppedAs}
 use Rattle.steps.specs.declared.Answer.{Answer}
 use Rattle.firewall.specs.Firewall.{Said, refused, answered, After, Left, saidChecked, saidStarted, saidSwitched, saidJudged}
 use Rattle.firewall.specs.declared.refusal.Refusal.{Refusal}
@@ -14,7 +17,7 @@ use Rattle.firewall.specs.declared.Switched.{Switched}
 use Rattle.firewall.specs.declared.Switched.the-variants as switched
 use Rattle.firewall.specs.declared.Judged.{Judged}
 use Rattle.firewall.specs.declared.Judged.the-variants as judged
-use Rattle.theorems.specs.Unique.{leaves, writes, Unique}
+use Rattle.theorems.specs.Unique.{leaves, writes, steps, OneOutcome, Unique}
 
 -- ---- what is said tells the answer
 
@@ -72,11 +75,34 @@ module _ {R : Type 0} (say : R → Said) (same : (r q : R) → say r ≡ say q �
     ap (λ (z : After). z .space) (e ∙ sym f),
   )
 
+-- ---- and what a step leaves
+
+verdict-same : (r q : Verdict) → r .number ≡ q .number → r ≡ q
+verdict-same r q e = λ i. record { number = e i }
+
+stepped-same :
+    (z : Stepped) (r q : Answer) (v u : Words) (x y : List ℕ) → steps r v x ≡ z → steps q u y ≡ z → (r ≡ q) × (v ≡ u) × (x ≡ y)
+stepped-same z r q v u x y e f = (
+  λ i. record {
+    verdict = verdict-same (r .verdict) (q .verdict) (ap (λ (z : Stepped). z .verdict) (e ∙ sym f)) i;
+    rule = (e ∙ sym f) i .rule;
+    length = (e ∙ sym f) i .length;
+  },
+  ap (λ (z : Stepped). z .words) (e ∙ sym f),
+  ap (λ (z : Stepped). z .space) (e ∙ sym f),
+)
+
+pub one-outcome : OneOutcome
+one-outcome A is x y e f = e ∙ sym f
+
 pub unique : Unique
 unique = record {
+  number = λ n r q e f. verdict-same r q (e ∙ sym f);
+  records = λ s v u h k e f. sym (words-back v h) ∙ ap wordsOf (e ∙ sym f) ∙ words-back u k;
   read = λ bytes r q e f. e ∙ sym f;
   check = λ t w r q e f. checked-same r q (e ∙ sym f);
   fresh = λ t reading w. left-same saidStarted started-same _;
   switch = λ t state w. left-same saidSwitched switched-same _;
   judge = λ t w a space. after-same saidJudged judged-same _;
+  step = λ o space. stepped-same (steppedAs o space);
 }

@@ -1,4 +1,6 @@
 pub mod Run
 pub mod Statements
+pub mod Clock
+pub mod Passes
 pub mod Unique
 pub mod Worked

@@ -1,21 +1,14 @@
 -- What the definitions imply: each theorem's statement, under its own name.
 -- Assumes nothing.
-use Prim.Native.Nat.{ℕ, _+_, _<_, _≤_}
+use Prim.Native.Nat.{ℕ, _+_, _<_}
 use mathlib.Core.Path.{_≡_}
 use mathlib.Core.List.{List, [], _∷_}
 use Rattle.numbers.specs.Lists.{swapAll, ends, said}
-use Rattle.layers.specs.Layers.{shownOf}
-use Rattle.layers.specs.declared.Layers.{Layers}
-use Rattle.layers.specs.declared.Shown.the-variants as shown
 use Rattle.table.specs.declared.Table.{Table}
-use Rattle.table.specs.declared.Bucket.the-variants as bucket
-use Rattle.table.specs.declared.Tracking.the-variants as tracking
-use Rattle.table.specs.Table.{ruleAt, bucketOf, trackingOf}
-use Rattle.matching.specs.Matching.{deciderOf}
-use Rattle.records.specs.Records.{RuleRecord, Records, Words, recordsOf, recordAt, default, Shaped}
+use Rattle.records.specs.Records.{RuleRecord, Records, Words, recordsOf, recordAt, Shaped}
 use Rattle.steps.specs.Steps.{Arrival}
-use Rattle.firewall.specs.Firewall.{Said, refused, done, answered, After, startOf, switchOf, judgeOf}
-use Rattle.theorems.specs.Run.{arrival, Item, go, Told, tell, Good, MayAll, Apart}
+use Rattle.firewall.specs.Firewall.{Said, refused, done, answered, startOf, switchOf, judgeOf}
+use Rattle.theorems.specs.Run.{Item, go, Told, tell, Good, MayAll, Apart}
 
 -- ---- Demand 3
 
@@ -65,31 +58,3 @@ CountsAdd =
     (t : Table) (reading : ℕ) (w v : Words) (items : List Item) → startOf t reading w ≡ record { said = done; words = v }
     → NoneStopped (recordsOf (ends (go t) v items))
     → total (recordsOf (ends (go t) v items)) ≡ sumOf judgedIn (said (go t) (tell t) v items)
-
--- ---- The clock
-
--- "0 if it went back": a frame whose reading is not above the last is answered as at the last,
--- and leaves the same records but for the last reading itself
-pub record SameButLast (x y : After) : Type 0 where
-  pub said : x .said ≡ y .said
-  pub space : x .space ≡ y .space
-  pub state : recordsOf (x .words) .state ≡ recordsOf (y .words) .state
-  pub rules : recordsOf (x .words) .rules ≡ recordsOf (y .words) .rules
-
-abbrev pub ClockBack : Type 0
-ClockBack =
-    (t : Table) (w : Words) (reading : ℕ) (bytes space : List ℕ) → Shaped w → reading ≤ recordsOf w .last
-    → SameButLast (judgeOf t w (arrival reading bytes) space) (judgeOf t w (arrival (recordsOf w .last) bytes) space)
-
--- the default, or a rule without bucket and tracking
-abbrev pub Plain : Table → ℕ → Type 0
-Plain t d = d < default → (bucketOf (ruleAt t d) ≡ bucket.Unset) × (trackingOf (ruleAt t d) ≡ tracking.Unset)
-
--- a frame that such a decider decides is answered alike at every reading
-abbrev pub ClockFree : Type 0
-ClockFree =
-    (t : Table) (w : Words) (bytes space : List ℕ) (l : Layers) → shownOf bytes ≡ shown.Shows l
-    → Plain t (deciderOf t (recordsOf w .state) bytes l)
-    → (n m : ℕ)
-    → (judgeOf t w (arrival n bytes) space .said ≡ judgeOf t w (arrival m bytes) space .said)
-    × (judgeOf t w (arrival n bytes) space .space ≡ judgeOf t w (arrival m bytes) space .space)

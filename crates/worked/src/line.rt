@@ -4,6 +4,9 @@ use firewall::Judged;
 use firewall::refusal::Refusal;
 use numbers::read16;
 use numbers::wide64;
+use records::AGE;
+use records::STATE;
+use records::verdict::Verdict;
 use steps::Answer;
 
 pub type Line = [u8; 128];
@@ -71,25 +74,14 @@ pub(crate) fn judged(
 ) -> Line {
     put(&mut line, 0, example);
     number(&mut line, READING, reading);
-    match answer {
-        Judged::Refused(r) => refused(&mut line, r),
-        Judged::Answered(a) => answered(&mut line, a, space),
-    }
+    answered(&mut line, answer, space);
     line
 }
 
-fn refused(line: &mut Line, r: Refusal) {
-    let n = r.number;
-    put(line, VERDICT, b"refused");
-    number(line, VERDICT + 9, n as u64);
-    match n {
-        1 => put(line, VERDICT + 10, b"too short"),
-        2 => put(line, VERDICT + 10, b"too long"),
-        _ => {}
-    }
-}
-
-fn answered(line: &mut Line, a: Answer, space: &[u8; 256]) {
+fn answered(line: &mut Line, answer: Judged, space: &[u8; 256]) {
+    let Judged::Answered(a) = answer else {
+        return refused(line, answer);
+    };
     let v = a.verdict;
     let n = v.number;
     number(line, VERDICT + 1, n as u64);
@@ -98,20 +90,35 @@ fn answered(line: &mut Line, a: Answer, space: &[u8; 256]) {
     event(line, a.length, space);
 }
 
+fn refused(line: &mut Line, answer: Judged) {
+    let Judged::Refused(r) = answer else {
+        return;
+    };
+    let n = r.number;
+    put(line, VERDICT, b"refused");
+    number(line, VERDICT + 9, n as u64);
+    match n {
+        Refusal::TOO_SHORT => put(line, VERDICT + 10, b"too short"),
+        Refusal::TOO_LONG => put(line, VERDICT + 10, b"too long"),
+        _ => {}
+    }
+}
+
 fn verdict(line: &mut Line, n: u8) {
     match n {
-        0 => put(line, VERDICT + 2, b"allowed"),
-        1 => put(line, VERDICT + 2, b"allowed by default"),
-        2 => put(line, VERDICT + 2, b"blocked by rule"),
-        3 => put(line, VERDICT + 2, b"over rate"),
-        4 => put(line, VERDICT + 2, b"wrong step"),
-        5 => put(line, VERDICT + 2, b"no place free"),
-        _ => put(line, VERDICT + 2, b"blocked by default"),
+        Verdict::ALLOWED => put(line, VERDICT + 2, b"allowed"),
+        Verdict::ALLOWED_BY_DEFAULT => put(line, VERDICT + 2, b"allowed by default"),
+        Verdict::BLOCKED_BY_RULE => put(line, VERDICT + 2, b"blocked by rule"),
+        Verdict::OVER_RATE => put(line, VERDICT + 2, b"over rate"),
+        Verdict::WRONG_STEP => put(line, VERDICT + 2, b"wrong step"),
+        Verdict::NO_PLACE_FREE => put(line, VERDICT + 2, b"no place free"),
+        Verdict::BLOCKED_BY_DEFAULT => put(line, VERDICT + 2, b"blocked by default"),
+        _ => {}
     }
 }
 
 fn rule(line: &mut Line, id: u16) {
-    if id == 65535 {
+    if id == Answer::NO_RULE {
         put(line, RULE, b"default");
     } else {
         number(line, RULE + 7, id as u64);
@@ -144,13 +151,13 @@ pub(crate) fn level(mut line: Line, at: usize, n: u32) -> Line
 pub(crate) fn place(mut line: Line, at: usize, words: &[u32; 5]) -> Line
     requires { ⌜ at ≤ 108 ⌝ }
 {
-    let state = words[0];
+    let state = words[STATE];
     if state == 0 {
         put(&mut line, at, b"free");
         return line;
     }
     phase(&mut line, at, state);
-    number(&mut line, at + 11, wide64(words[4]));
+    number(&mut line, at + 11, wide64(words[AGE]));
     put(&mut line, at + 12, b"ms");
     line
 }

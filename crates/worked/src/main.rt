@@ -30,6 +30,7 @@ use line::Line;
 use line::SECOND;
 use records::Counts;
 use records::Head;
+use records::LEVEL;
 use records::Places;
 use table::words::TableWords;
 
@@ -49,7 +50,7 @@ enum Look {
 fn looked(line: Line, look: Look, counts: &Counts, places: &Places) -> Line {
     match look {
         Look::Nothing => line,
-        Look::Level => line::level(line, FIRST, counts[AT30][0]),
+        Look::Level => line::level(line, FIRST, counts[AT30][LEVEL]),
         Look::Places => line::place(
             line::place(line, FIRST, &places[AT20][0]),
             SECOND,
@@ -58,7 +59,7 @@ fn looked(line: Line, look: Look, counts: &Counts, places: &Places) -> Line {
         Look::Both => line::level(
             line::place(line, FIRST, &places[AT20][0]),
             SECOND,
-            counts[AT30][0],
+            counts[AT30][LEVEL],
         ),
     }
 }
@@ -123,8 +124,51 @@ fn alone(
     show(example, f, 0, Look::Nothing, t, head, counts, places);
 }
 
+// The same, with the table by value.
+fn judge_by_value(
+    bytes: &[u8; 1519],
+    length: usize,
+    head: &mut Head,
+    counts: &mut Counts,
+    places: &mut Places,
+    space: &mut [u8; 256],
+) -> Judged
+    requires { ⌜ length ≤ 1519 ⌝ }
+{
+    let all = &bytes[..];
+    firewall::judge_table(
+        set::table(),
+        head,
+        counts,
+        places,
+        &all[0..length],
+        0,
+        space,
+    )
+}
+
+fn by_value(
+    example: &[u8],
+    f: Frame,
+    t: &TableWords,
+    head: &mut Head,
+    counts: &mut Counts,
+    places: &mut Places,
+) {
+    fresh(t, head, counts, places);
+    let bytes = f.bytes;
+    let length = f.length;
+    let line = f.line;
+    if 1519 < length {
+        return;
+    }
+    let mut space = [0u8; 256];
+    let answer = judge_by_value(&bytes, length, head, counts, places, &mut space);
+    line::print(line::judged(line, example, 0, answer, &space));
+}
+
 fn m1_to_m4(t: &TableWords, head: &mut Head, counts: &mut Counts, places: &mut Places) {
-    alone(b"M1", a(), t, head, counts, places);
+    by_value(b"M1", a(), t, head, counts, places);
     alone(b"M2", a_padded(), t, head, counts, places);
     alone(b"M3", a_with_type(), t, head, counts, places);
     alone(b"M4", a_cut(), t, head, counts, places);

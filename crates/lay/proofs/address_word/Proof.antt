@@ -1,5 +1,3 @@
-use mathlib.Core.Path.{ap}
-use Rattle.table.specs.declared.Prefix.{Prefix}
 use Rattle.lay.proofs.Packing.{laid-none, laid-on}
 use borrow.Author.Needs.{needs}
 use Rattle.lay.proofs.address_word.Statement.{statement}
@@ -19,8 +17,8 @@ field32-requires-2 c κs = search needs
 
 returns : tie.Need-returns
 returns c =
-    laid-on 32 (c .field322 .ensures) (ap (λ (x : Prefix). x .address) (c .before .before .before .prefix-value .ensures))
-    (laid-on 32 (c .before .field32 .ensures) (ap (λ (x : Prefix). x .address) (c .before .before .prefix-value2 .ensures))
+    laid-on 32 (c .field322 .ensures) (rw (c .before .before .before .prefix-value .ensures))
+    (laid-on 32 (c .before .field32 .ensures) (rw (c .before .before .prefix-value2 .ensures))
     (laid-none 0))
 
 pub address-word-spec : {M : Type 1} → statement M

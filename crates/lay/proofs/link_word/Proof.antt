@@ -1,5 +1,3 @@
-use mathlib.Core.Path.{ap}
-use Rattle.table.specs.declared.Prefix.{Prefix}
 use Rattle.lay.proofs.Packing.{laid-none, laid-on}
 use borrow.Author.Needs.{needs}
 use Rattle.lay.proofs.link_word.Statement.{statement}
@@ -49,8 +47,8 @@ returns c =
     laid-on 16 (c .field162 .ensures) (u .before .before .value16 .ensures)
     (laid-on 8 (c .before .field84 .ensures) (u .before .value82 .ensures)
     (laid-on 16 (c .before .before .field16 .ensures) (u .value162 .ensures)
-    (laid-on 8 (l .field83 .ensures) (ap (λ (x : Prefix). x .length) (p .before .prefix-value .ensures))
-    (laid-on 8 (l .before .field82 .ensures) (ap (λ (x : Prefix). x .length) (p .prefix-value2 .ensures))
+    (laid-on 8 (l .field83 .ensures) (rw (p .before .prefix-value .ensures))
+    (laid-on 8 (l .before .field82 .ensures) (rw (p .prefix-value2 .ensures))
     (laid-on 8 (l .before .before .field8 .ensures) (l .before .before .before .value8 .ensures) (laid-none 0))))))
 
 pub link-word-spec : {M : Type 1} → statement M

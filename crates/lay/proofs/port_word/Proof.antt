@@ -1,5 +1,3 @@
-use mathlib.Core.Path.{ap}
-use Rattle.table.specs.declared.Range.{Range}
 use Rattle.lay.proofs.Packing.{laid-none, laid-on}
 use borrow.Author.Needs.{needs}
 use Rattle.lay.proofs.port_word.Statement.{statement}
@@ -25,10 +23,10 @@ field16-requires-4 c κs = search needs
 
 returns : tie.Need-returns
 returns c =
-    laid-on 16 (c .field164 .ensures) (ap (λ (x : Range). x .low) (c .before .before .before .before .before .range-value .ensures))
-    (laid-on 16 (c .before .field163 .ensures) (ap (λ (x : Range). x .high) (c .before .before .before .before .before .range-value .ensures))
-    (laid-on 16 (c .before .before .field162 .ensures) (ap (λ (x : Range). x .low) (c .before .before .before .before .range-value2 .ensures))
-    (laid-on 16 (c .before .before .before .field16 .ensures) (ap (λ (x : Range). x .high) (c .before .before .before .before .range-value2 .ensures))
+    laid-on 16 (c .field164 .ensures) (rw (c .before .before .before .before .before .range-value .ensures))
+    (laid-on 16 (c .before .field163 .ensures) (rw (c .before .before .before .before .before .range-value .ensures))
+    (laid-on 16 (c .before .before .field162 .ensures) (rw (c .before .before .before .before .range-value2 .ensures))
+    (laid-on 16 (c .before .before .before .field16 .ensures) (rw (c .before .before .before .before .range-value2 .ensures))
     (laid-none 0))))
 
 pub port-word-spec : {M : Type 1} → statement M

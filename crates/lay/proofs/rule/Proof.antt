@@ -1,4 +1,4 @@
-use Rattle.lay.proofs.Packing.{rule-read}
+use Rattle.lay.proofs.Packing.{rule-laid}
 use borrow.Author.Needs.{needs}
 use Rattle.lay.proofs.rule.Statement.{statement}
 use Rattle.lay.proofs.rule.Tie as tie
@@ -31,8 +31,17 @@ returns : tie.Need-returns
 returns c =
     let p = c .before .before in
     let l = p .before .before in
-    rule-read _ _ (l .before .before .before .head-word .ensures) (l .before .before .value64 .ensures) (l .before .value642 .ensures) (l .link-word .ensures)
-    (p .before .address-word .ensures) (p .port-word .ensures) (c .before .someip-word .ensures) (c .limit-word .ensures)
+    let d = l .before .before in
+    rule-laid _ (record {
+      head = d .before .head-word .ensures;
+      destination = d .value64 .ensures;
+      source = l .before .value642 .ensures;
+      link = l .link-word .ensures;
+      address = p .before .address-word .ensures;
+      port = p .port-word .ensures;
+      someip = c .before .someip-word .ensures;
+      limit = c .limit-word .ensures;
+    })
 
 pub rule-spec : {M : Type 1} → statement M
 rule-spec =

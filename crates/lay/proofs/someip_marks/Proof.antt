@@ -35,15 +35,16 @@ mark-requires-5 : tie.Need-mark-requires-5
 mark-requires-5 c κs = search needs
 
 returns : tie.Need-returns
-returns c = (
-  mark-on (c .mark5 .ensures) (c .before .before .before .before .before .unset16 .ensures)
-      (mark-on (c .before .mark4 .ensures) (c .before .before .before .before .unset162 .ensures)
-      (mark-on (c .before .before .mark3 .ensures) (c .before .before .before .unset83 .ensures)
-      (mark-on (c .before .before .before .before .before .before .mark2 .ensures) (c .before .before .before .before .before .before .before .before .before .unset8 .ensures)
-      (mark-on (c .before .before .before .before .before .before .before .mark .ensures) (c .before .before .before .before .before .before .before .before .unset82 .ensures)
-      (laid-none _))))),
-  omega arith,
-)
+returns c =
+    let m = c .before .before .before .before .before .before in (
+      mark-on (c .mark5 .ensures) (c .before .before .before .before .before .unset16 .ensures)
+          (mark-on (c .before .mark4 .ensures) (c .before .before .before .before .unset162 .ensures)
+          (mark-on (c .before .before .mark3 .ensures) (c .before .before .before .unset83 .ensures)
+          (mark-on (m .mark2 .ensures) (m .before .before .before .unset8 .ensures)
+          (mark-on (m .before .mark .ensures) (m .before .before .unset82 .ensures)
+          (laid-none _))))),
+      omega arith,
+    )
 
 pub someip-marks-spec : {M : Type 1} → statement M
 someip-marks-spec =

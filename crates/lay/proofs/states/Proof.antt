@@ -1,18 +1,19 @@
-use Prim.Native.Nat.{ℕ, _+_, _-_, _≤_}
-use mathlib.Core.Path.{_≡_, refl, ap, _∙_}
-use mathlib.Core.List.{List, map}
+use Prim.Native.Nat.{_+_, _-_, _≤_}
+use mathlib.Core.Path.{_≡_, refl, _∙_}
+use mathlib.Core.List.{map}
 use lib.ListN.{length, take, drop, length-drop, length-set}
-use lib.Seq.{drop-set-add}
+use lib.Seq.{drop-set-add, take-all}
 use Rattle.table.specs.Table.{noState}
 use Rattle.table.specs.Words.{stateIn}
-use Rattle.lay.proofs.Packing.{laid-next, states-laid}
+use Rattle.lay.specs.Fields.{LaidAs, stateWords}
+use Rattle.lay.proofs.Packing.{rows-next}
 use borrow.Author.Needs.{needs}
 use native.Mathlib.Omega.{arith}
 use Rattle.lay.proofs.states.Statement.{statement}
 use Rattle.lay.proofs.states.Tie as tie
 
 abbrev Inv-loop : tie.InvT-loop
-Inv-loop w₀ t k₀ w k = (k ≤ 8) × (length w ≡ 73) × (map stateIn (take k (drop 65 w)) ≡ take k (t .states))
+Inv-loop w₀ t k₀ w k = (k ≤ 8) × (length w ≡ 73) × LaidAs (map stateWords) (map stateIn) (take k (t .states)) (take k (drop 65 w))
 
 abbrev μ-loop : tie.MeasureT-loop
 μ-loop w₀ t k₀ w k = 8 - k
@@ -24,7 +25,7 @@ rows-requires : tie.Need-rows-requires Inv-loop μ-loop
 rows-requires c κs = search needs
 
 loop-holds : tie.Need-loop-holds Inv-loop μ-loop
-loop-holds c = (omega arith, c .rows .ensures, refl)
+loop-holds c = (omega arith, c .rows .ensures, record { exact = refl; back = refl })
 
 mul-s : tie.Need-mul-s Inv-loop μ-loop
 mul-s c = search needs
@@ -54,20 +55,22 @@ loop-again : tie.Need-loop-again Inv-loop μ-loop
 loop-again c =
     let l = c .before .before .before in
     let f = l .before .before .before in
-    let n : length (drop 65 (l .loop .w)) ≡ 8 = omega (arith, length-drop 65 (l .loop .w), l .loop .inv .1) in (
+    let h = c .before .before .loop-test .taken in (
       omega arith,
       length-set (l .loop .w) (65 + l .loop .k) (c .state .result) ∙ l .loop .inv .1,
-      ap (λ (v : List (List ℕ)). map stateIn (take (l .loop .k + 1) v)) (drop-set-add 65 (l .loop .w) (l .loop .k) (c .state .result))
-          ∙ laid-next stateIn noState (drop 65 (l .loop .w)) (f .before .args .t1 .states) (l .loop .k) (c .state .result)
-          (omega (arith, n, c .before .before .loop-test .taken)) (omega (arith, f .full .ensures .1, c .before .before .loop-test .taken))
-          (l .loop .inv .2) (c .state .ensures),
+      rw (drop-set-add 65 (l .loop .w) (l .loop .k) (c .state .result))
+          (rows-next noState (f .before .args .t1 .states) (drop 65 (l .loop .w)) (l .loop .k) (omega (arith, f .full .ensures .1, h))
+          (omega (arith, length-drop 65 (l .loop .w), l .loop .inv .1, h)) (l .loop .inv .2) (c .state .ensures)),
     )
 
 returns : tie.Need-returns Inv-loop μ-loop
 returns c =
     let l = c .before in
     let f = l .before .before .before in (
-      states-laid (l .loop .w) (f .before .args .t1 .states) (l .loop .k) (l .loop .inv .1) (f .full .ensures .1) (omega arith) (l .loop .inv .2),
+      rw (
+        take-all (l .loop .k) (f .before .args .t1 .states) (omega (arith, f .full .ensures .1)),
+        take-all (l .loop .k) (drop 65 (l .loop .w)) (omega (arith, length-drop 65 (l .loop .w), l .loop .inv .1)),
+      ) at (l .loop .inv .2),
       l .loop .inv .1,
     )
 

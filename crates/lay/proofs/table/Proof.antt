@@ -1,11 +1,12 @@
 use Prim.Native.Nat.{_-_, _≤_}
-use mathlib.Core.Path.{_≡_, refl, ap, _∙_}
+use mathlib.Core.Path.{_≡_, refl, _∙_}
 use mathlib.Core.List.{map}
 use lib.ListN.{length, take, drop, length-set}
-use lib.Seq.{drop-set-lt}
+use lib.Seq.{drop-set-lt, take-all}
 use Rattle.table.specs.Table.{noRule}
 use Rattle.table.specs.Words.{ruleIn, stateIn}
-use Rattle.lay.proofs.Packing.{laid-next, table-read}
+use Rattle.lay.specs.Fields.{LaidAs, ruleWords, stateWords, countWords}
+use Rattle.lay.proofs.Packing.{rows-next, table-laid}
 use borrow.Author.Needs.{needs}
 use native.Mathlib.Omega.{arith}
 use Rattle.lay.proofs.table.Statement.{statement}
@@ -15,8 +16,8 @@ abbrev Inv-loop : tie.InvT-loop
 Inv-loop w₀ t i₀ w i =
     (i ≤ 64)
     × (length w ≡ 73)
-    × (map ruleIn (take i w) ≡ take i (t .rules))
-    × (map stateIn (drop 65 w) ≡ t .states)
+    × LaidAs (map ruleWords) (map ruleIn) (take i (t .rules)) (take i w)
+    × LaidAs (map stateWords) (map stateIn) (t .states) (drop 65 w)
 
 abbrev μ-loop : tie.MeasureT-loop
 μ-loop w₀ t i₀ w i = 64 - i
@@ -28,7 +29,7 @@ states-requires : tie.Need-states-requires Inv-loop μ-loop
 states-requires c κs = search needs
 
 loop-holds : tie.Need-loop-holds Inv-loop μ-loop
-loop-holds c = (omega arith, c .states .ensures .1, refl, c .states .ensures .0)
+loop-holds c = (omega arith, c .states .ensures .1, record { exact = refl; back = refl }, c .states .ensures .0)
 
 mul-r : tie.Need-mul-r Inv-loop μ-loop
 mul-r c = search needs
@@ -58,20 +59,22 @@ loop-again c =
     let h = c .before .before .loop-test .taken in (
       omega arith,
       length-set (l .loop .w) (l .loop .i) (c .rule .result) ∙ l .loop .inv .1,
-      laid-next ruleIn noRule (l .loop .w) (f .before .args .t1 .rules) (l .loop .i) (c .rule .result) (omega (arith, l .loop .inv .1, h))
-          (omega (arith, f .full .ensures .0, h)) (l .loop .inv .2) (c .rule .ensures),
-      ap (map stateIn) (drop-set-lt 65 (l .loop .w) (l .loop .i) (c .rule .result) (omega (arith, h))) ∙ l .loop .inv .3,
+      rows-next noRule (f .before .args .t1 .rules) (l .loop .w) (l .loop .i) (omega (arith, f .full .ensures .0, h))
+          (omega (arith, l .loop .inv .1, h)) (l .loop .inv .2) (c .rule .ensures),
+      rw (drop-set-lt 65 (l .loop .w) (l .loop .i) (c .rule .result) (omega (arith, h))) (l .loop .inv .3),
     )
 
 element-set-from-w-2 : tie.Need-element-set-from-w-2 Inv-loop μ-loop
 element-set-from-w-2 c = search needs
 
 returns : tie.Need-returns Inv-loop μ-loop
+unfolding countWords
 returns c =
     let l = c .before in
     let f = l .before .before .before in
-    table-read (f .before .args .t1) (l .loop .w) _ (l .loop .i) (l .loop .inv .1) (f .full .ensures .0) (omega arith) (l .loop .inv .2)
-    (l .loop .inv .3) refl refl
+    let n : l .loop .i ≡ 64 = omega arith in
+    table-laid (f .before .args .t1) (l .loop .w) (l .loop .inv .1)
+    (rw (n, take-all 64 (f .before .args .t1 .rules) (omega (arith, f .full .ensures .0))) at (l .loop .inv .2)) (l .loop .inv .3)
 
 pub table-spec : {M : Type 1} → statement M
 table-spec =

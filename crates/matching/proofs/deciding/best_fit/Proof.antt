@@ -4,7 +4,10 @@ use mathlib.Core.List.{List, []}
 use mathlib.Core.Bool.{cond}
 use mathlib.Core.Logic.{⊎-elim}
 use lib.ListN.{getD}
+use lib.Dec.{ltb}
 use borrow.Author.Needs.{needs}
+use borrow.Author.Tests.{ltb-true}
+use Rattle.numbers.proofs.Lists.{and-both}
 use Rattle.layers.specs.declared.Layers.{Layers}
 use Rattle.table.specs.declared.Rule.{Rule}
 use Rattle.table.specs.Table.{marked, stateAt, active}
@@ -12,7 +15,7 @@ use Rattle.table.specs.Words.{ruleIn, tableIn}
 use Rattle.table.proofs.Rows.{rule-at}
 use Rattle.matching.specs.Matching.{layerTests}
 use Rattle.matching.specs.Best.{leading, scoreOf}
-use Rattle.matching.proofs.Fitting.{Fits, fits-start, fits-taken, fits-left, fits-none, fits-best, score-small, best-full}
+use Rattle.matching.proofs.Fitting.{Fits, fits-start, fits-taken, fits-left, fits-end, fits-none, best-fits, score-small}
 use native.Mathlib.Omega.{arith}
 use Rattle.matching.proofs.deciding.best_fit.Statement.{statement}
 use Rattle.matching.proofs.deciding.best_fit.Tie as tie
@@ -22,10 +25,15 @@ Inv-loop t state s l marks count place₀ most₀ i₀ place most i =
     (i ≤ count)
     × (count ≡ tableIn t .rulecount)
     × Fits (scoreOf (tableIn t) state s l) i place most
-    × (most < 5)
 
 abbrev μ-loop : tie.MeasureT-loop
 μ-loop t state s l marks count place₀ most₀ i₀ place most i = count - i
+
+-- the loop goes on at a place that there is
+goes-on : (c : tie.In-loop Inv-loop μ-loop) → c .before .loop .i < c .before .before .rulecount .result
+goes-on c =
+    let q = c .before in
+    ltb-true (q .loop .i) (q .before .rulecount .result) (and-both (ltb (q .loop .i) (q .before .rulecount .result)) _ (c .loop-test .taken) .0)
 
 -- the score of the row at i is that of the rule there
 row-scored :
@@ -46,7 +54,7 @@ scored c =
     let q = c .before .before .before in
     let m = q .before .before in
     let a = m .before .before .before .before .args in
-    row-scored (a .t .now) (a .state) (a .s .now) (a .l) (m .marks-of .result) (q .loop .i) (c .score .result) (omega arith) (m .marks-of .ensures) (c .score .ensures)
+    row-scored (a .t .now) (a .state) (a .s .now) (a .l) (m .marks-of .result) (q .loop .i) (c .score .result) (omega (arith, goes-on (c .before .before))) (m .marks-of .ensures) (c .score .ensures)
 
 rows-requires : tie.Need-rows-requires Inv-loop μ-loop
 rows-requires c κs = search needs
@@ -60,61 +68,53 @@ rulecount-requires c κs = search needs
 loop-holds : tie.Need-loop-holds Inv-loop μ-loop
 loop-holds c =
     let a = c .before .before .before .before .before .args in
-    (omega arith, c .rulecount .ensures, fits-start (scoreOf (tableIn (a .t .now)) (a .state) (a .s .now) (a .l)), omega arith)
+    (omega arith, c .rulecount .ensures, fits-start (scoreOf (tableIn (a .t .now)) (a .state) (a .s .now) (a .l)))
 
 mul-score : tie.Need-mul-score Inv-loop μ-loop
-mul-score c = omega arith
+mul-score c = omega (arith, goes-on c)
 
 index-1-score : tie.Need-index-1-score Inv-loop μ-loop
-index-1-score c = omega arith
+index-1-score c = omega (arith, goes-on c)
 
 score-requires : tie.Need-score-requires Inv-loop μ-loop
-score-requires c κs = omega arith
-
-returns : tie.Need-returns Inv-loop μ-loop
-returns c =
-    let n = c .before in
-    let q = n .before .before .before in
-    let a = q .before .before .before .before .before .before .args in
-    best-full (tableIn (a .t .now)) (a .state) (a .s .now) (a .l) (q .loop .i) (omega arith) (sym (scored n) ∙ c .if1 .taken)
-    (λ j h. omega (arith, q .loop .inv .3, q .loop .inv .2 .below j h))
+score-requires c κs = omega (arith, goes-on (c .before))
 
 add-i : tie.Need-add-i Inv-loop μ-loop
-add-i c = omega arith
+add-i c = omega (arith, goes-on (c .before .before .before))
 
 loop-less : tie.Need-loop-less Inv-loop μ-loop
-loop-less c = omega arith
+loop-less c = omega (arith, goes-on (c .before .before .before))
 
 loop-again : tie.Need-loop-again Inv-loop μ-loop
 loop-again c =
-    let n = c .before .before in
+    let n = c .before in
     let q = n .before .before .before in
     let a = q .before .before .before .before .before .before .args in
-    let f = scoreOf (tableIn (a .t .now)) (a .state) (a .s .now) (a .l) in
-    let small = score-small (tableIn (a .t .now)) (a .state) (a .s .now) (a .l) (q .loop .i) in (
-      omega arith,
+    let f = scoreOf (tableIn (a .t .now)) (a .state) (a .s .now) (a .l) in (
+      omega (arith, goes-on (n .before .before)),
       q .loop .inv .1,
       ⊎-elim
-          (λ w. fits-taken f (q .loop .i) (q .loop .place) (q .loop .most) (n .score .result) (c .if2 .place) (c .if2 .most) (q .loop .inv .2) (scored n) (w .0 .taken) (w .1) (w .2))
-          (λ w. fits-left f (q .loop .i) (q .loop .place) (q .loop .most) (n .score .result) (c .if2 .place) (c .if2 .most) (q .loop .inv .2) (scored n) (w .0 .left) (w .1) (w .2))
-          (c .if2 .came),
-      ⊎-elim (λ w. omega (arith, w .2, c .before .if1 .left, scored n, small)) (λ w. omega (arith, w .2, q .loop .inv .3)) (c .if2 .came),
+          (λ w. fits-taken f (q .loop .i) (q .loop .place) (q .loop .most) (n .score .result) (c .if1 .place) (c .if1 .most) (q .loop .inv .2) (scored n) (w .0 .taken) (w .1) (w .2))
+          (λ w. fits-left f (q .loop .i) (q .loop .place) (q .loop .most) (n .score .result) (c .if1 .place) (c .if1 .most) (q .loop .inv .2) (scored n) (w .0 .left) (w .1) (w .2))
+          (c .if1 .came),
     )
+
+returns : tie.Need-returns Inv-loop μ-loop
+returns c =
+    let q = c .before .before in
+    let a = q .before .before .before .before .before .before .args in
+    fits-none (tableIn (a .t .now)) (a .state) (a .s .now) (a .l) (q .loop .place) (q .loop .most) (c .if2 .taken)
+    (fits-end _ (q .loop .i) _ _ _ (score-small (tableIn (a .t .now)) (a .state) (a .s .now) (a .l)) (omega arith) (rw (q .loop .inv .1) at (c .before .loop-test .left)) (q .loop .inv .2))
+
+sub-t21 : tie.Need-sub-t21 Inv-loop μ-loop
+sub-t21 c = omega arith
 
 returns-2 : tie.Need-returns-2 Inv-loop μ-loop
 returns-2 c =
     let q = c .before .before in
     let a = q .before .before .before .before .before .before .args in
-    fits-none (tableIn (a .t .now)) (a .state) (a .s .now) (a .l) (q .loop .i) (q .loop .place) (q .loop .most) (omega arith) (c .if3 .taken) (q .loop .inv .2)
-
-sub-t19 : tie.Need-sub-t19 Inv-loop μ-loop
-sub-t19 c = omega arith
-
-returns-3 : tie.Need-returns-3 Inv-loop μ-loop
-returns-3 c =
-    let q = c .before .before in
-    let a = q .before .before .before .before .before .before .args in
-    fits-best (tableIn (a .t .now)) (a .state) (a .s .now) (a .l) (q .loop .i) (q .loop .place) (q .loop .most) (omega arith) (c .if3 .left) (q .loop .inv .2)
+    best-fits (tableIn (a .t .now)) (a .state) (a .s .now) (a .l) (q .loop .place) (q .loop .most) (c .if2 .left)
+    (fits-end _ (q .loop .i) _ _ _ (score-small (tableIn (a .t .now)) (a .state) (a .s .now) (a .l)) (omega arith) (rw (q .loop .inv .1) at (c .before .loop-test .left)) (q .loop .inv .2))
 
 pub best-fit-spec : {M : Type 1} → statement M
 best-fit-spec =
@@ -129,10 +129,9 @@ best-fit-spec =
     mul-score
     index-1-score
     score-requires
-    returns
     add-i
     loop-less
     loop-again
-    returns-2
-    sub-t19
-    returns-3)
+    returns
+    sub-t21
+    returns-2)
