@@ -1,5 +1,12 @@
 // The image of a table and that of records, taken apart.
 ghost use Prim.Native.Nat.{_+_, _≤_, _<_};
+use conversations::PLACE_WORDS;
+use conversations::PLACES;
+use conversations::PlaceWords;
+use conversations::RulePlaces;
+use conversations::place::ipv4_quad;
+use conversations::place::phase_of;
+use conversations::place::place_words;
 use numbers::count8;
 use numbers::read16;
 use numbers::read32;
@@ -248,36 +255,26 @@ pub(crate) fn table_of(s: &Image) -> Table {
 }
 
 // A free place is all zeros, and a state above 3 is Closing: what an image cannot say, it cannot hold.
-fn place(s: &Image, at: usize) -> [u32; 5]
+fn place(s: &Image, at: usize) -> PlaceWords
     requires { ⌜ at + 64 ≤ 33812 ⌝ }
 {
-    let state = phase(s[at]);
-    if state == 0 {
-        return [0; 5];
+    if s[at] == 0 {
+        return [0; PLACE_WORDS];
     }
-    [
-        state,
-        read32(s, at + 1),
-        read32(s, at + 5),
-        read32(s, at + 9),
-        read32(s, at + 13),
-    ]
+    let q = ipv4_quad(read32(s, at + 1), read32(s, at + 5), read32(s, at + 9));
+    let f = phase_of(state_number(s[at]));
+    place_words(q, f, read32(s, at + 13))
 }
 
-fn phase(b: u8) -> u32 {
-    match b {
-        0 => 0,
-        1 => 1,
-        2 => 2,
-        _ => 3,
-    }
+fn state_number(b: u8) -> u64 {
+    b as u64
 }
 
-fn held(s: &Image, at: usize, places: &mut [[u32; 5]; 8])
+fn held(s: &Image, at: usize, places: &mut RulePlaces)
     requires { ⌜ at + 528 ≤ 33812 ⌝ }
 {
     let mut j = 0;
-    while j < 8 {
+    while j < PLACES {
         places[j] = place(s, at + 16 + 64 * j);
         j += 1;
     }

@@ -5,21 +5,29 @@ mod input;
 mod output;
 mod print;
 
+use conversations::PLACE_WORDS;
+use conversations::PLACES;
 use image::Image;
 use input::Got;
+use records::COUNT_ROWS;
+use records::COUNT_WORDS;
 use records::Counts;
+use records::HEAD_WORDS;
 use records::Head;
 use records::Places;
+use table::RULES;
+use table::words::ROW_WORDS;
+use table::words::ROWS;
 use table::words::TableWords;
 
 // The calls one after the other, with the table and the records held from one to the next. Nothing says that an input
 // ends, so the turns are counted down from a number that no run uses up.
 fn run(buf: &mut [u8; 65536], image: &mut Image, out: &mut [u8; 65536], used: &mut usize) {
     let mut span = [0usize; 2];
-    let mut head: Head = [0; 2];
-    let mut counts: Counts = [[0; 3]; 65];
-    let mut places: Places = [[[0; 5]; 8]; 64];
-    let mut t: TableWords = [[0; 8]; 73];
+    let mut head: Head = [0; HEAD_WORDS];
+    let mut counts: Counts = [[0; COUNT_WORDS]; COUNT_ROWS];
+    let mut places: Places = [[[0; PLACE_WORDS]; PLACES]; RULES];
+    let mut t: TableWords = [[0; ROW_WORDS]; ROWS];
     let mut turns = u64::MAX;
     while turns > 0 {
         let Got::Byte(letter) = input::next(buf, &mut span) else {

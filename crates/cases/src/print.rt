@@ -3,6 +3,12 @@ use crate::output::hex;
 use crate::output::put;
 use crate::output::row;
 use crate::output::text;
+use conversations::PLACES;
+use conversations::PlaceWords;
+use conversations::RulePlaces;
+use conversations::place::age;
+use conversations::place::quad;
+use conversations::place::state;
 use firewall::Checked;
 use firewall::Judged;
 use firewall::Started;
@@ -20,20 +26,17 @@ use layers::Tag;
 use layers::Transport;
 use numbers::wide64;
 use records::ACTIVE;
-use records::AGE;
 use records::BLOCKED;
+use records::CountWords;
 use records::Counts;
 use records::DEFAULT;
-use records::DESTINATION;
 use records::Head;
 use records::LAST;
 use records::LEVEL;
 use records::PASSED;
-use records::PORTS;
 use records::Places;
-use records::SOURCE;
-use records::STATE;
 use steps::Answer;
+use table::RULES;
 
 fn byte(x: u8) -> u64 {
     x as u64
@@ -175,9 +178,9 @@ fn frame(l: Layers, out: &mut [u8; 65536], used: &mut usize) {
 
 fn link(l: Link, out: &mut [u8; 65536], used: &mut usize) {
     put(out, used, b' ');
-    hex(out, used, l.dst, 12);
+    hex(out, used, l.destination, 12);
     put(out, used, b' ');
-    hex(out, used, l.src, 12);
+    hex(out, used, l.source, 12);
     let t = l.tag;
     tag(t, out, used);
     row(out, used, b' ', b' ', &[short(l.ether)]);
@@ -270,7 +273,7 @@ pub(crate) fn all_records(
 ) -> bool {
     line(b'P', &totals(head, &counts[DEFAULT]), out, used);
     let mut k = 0;
-    while k < 64 {
+    while k < RULES {
         rule(k, &counts[k], &places[k], out, used);
         k += 1;
     }
@@ -286,7 +289,7 @@ fn line(letter: u8, numbers: &[u64], out: &mut [u8; 65536], used: &mut usize) {
 }
 
 // Of the words of the records, and the default's counts.
-fn totals(head: &Head, counts: &[u32; 3]) -> [u64; 4] {
+fn totals(head: &Head, counts: &CountWords) -> [u64; 4] {
     [
         head[LAST],
         head[ACTIVE],
@@ -297,8 +300,8 @@ fn totals(head: &Head, counts: &[u32; 3]) -> [u64; 4] {
 
 fn rule(
     k: usize,
-    counts: &[u32; 3],
-    places: &[[u32; 5]; 8],
+    counts: &CountWords,
+    places: &RulePlaces,
     out: &mut [u8; 65536],
     used: &mut usize,
 ) {
@@ -319,35 +322,36 @@ fn rule(
     conversations(k, places, out, used);
 }
 
-fn conversations(k: usize, places: &[[u32; 5]; 8], out: &mut [u8; 65536], used: &mut usize) {
+fn conversations(k: usize, places: &RulePlaces, out: &mut [u8; 65536], used: &mut usize) {
     let mut j = 0;
-    while j < 8 {
-        if places[j][STATE] != 0 {
+    while j < PLACES {
+        if state(&places[j]) != 0 {
             line(b'c', &conversation(k, j, &places[j]), out, used);
         }
         j += 1;
     }
 }
 
-fn conversation(k: usize, j: usize, place: &[u32; 5]) -> [u64; 8] {
-    let ports = place[PORTS];
+fn conversation(k: usize, j: usize, place: &PlaceWords) -> [u64; 8] {
+    let q = quad(place);
+    let ports = q.ports;
     [
         count(k),
         count(j),
-        wide64(place[SOURCE]),
-        wide64(place[DESTINATION]),
+        q.source,
+        q.destination,
         wide64(ports / 65536),
         wide64(ports % 65536),
-        wide64(place[STATE]),
-        wide64(place[AGE]),
+        state(place),
+        age(place),
     ]
 }
 
 // No level, no count and no conversation.
-fn empty(counts: &[u32; 3], places: &[[u32; 5]; 8]) -> bool {
+fn empty(counts: &CountWords, places: &RulePlaces) -> bool {
     let mut j = 0;
-    while j < 8 {
-        if places[j][STATE] != 0 {
+    while j < PLACES {
+        if state(&places[j]) != 0 {
             return false;
         }
         j += 1;

@@ -17,6 +17,7 @@ use Rattle.layers.specs.declared.Transport.the-variants as transport
 use Rattle.layers.specs.declared.Someip.{Someip}
 use Rattle.layers.specs.declared.Someip.the-variants as someip
 use Rattle.layers.specs.declared.Layers.{Layers}
+use Rattle.layers.specs.Seen.{seen}
 use Rattle.events.specs.Events.{array, ipv4Header, tcpHeader, udpHeader, someipHeader, numberOf, eventBytes}
 use Rattle.events.specs.Arrays.{lengthOf, heading, ipv4Span, tcpSpan, udpSpan, someipSpan, spanOf, headerIn}
 use Rattle.events.specs.declared.Event.{Event}
@@ -71,7 +72,7 @@ someip-in s (someip.Present m) = refl
 
 pub event-parts :
     (e : Event) (id : ℕ) (s : List ℕ) (l : Layers)
-    → eventBytes e id s l ≡ heading (numberOf e) id ++ array (lengthOf e - 4) (headerIn s (spanOf e l))
+    → eventBytes e id (seen s l) ≡ heading (numberOf e) id ++ array (lengthOf e - 4) (headerIn s (spanOf e l))
 unfolding eventBytes array
 event-parts event.Ratelimit id s l = simp append-nil
 event-parts event.StateTransition id s l = refl
@@ -103,11 +104,11 @@ longest event.UdpMismatch = omega arith
 longest event.SomeipMismatch = omega arith
 
 -- how long each event is
-pub event-length : (e : Event) (id : ℕ) (s : List ℕ) (l : Layers) → length (eventBytes e id s l) ≡ lengthOf e
+pub event-length : (e : Event) (id : ℕ) (s : List ℕ) (l : Layers) → length (eventBytes e id (seen s l)) ≡ lengthOf e
 event-length e id s l = rw (event-parts e id s l, length-append, length-array) (omega (arith, shortest e))
 
 -- no event reaches the 256 bytes at which it would end
-pub event-bound : (e : Event) (id : ℕ) (s : List ℕ) (l : Layers) → length (eventBytes e id s l) ≤ 34
+pub event-bound : (e : Event) (id : ℕ) (s : List ℕ) (l : Layers) → length (eventBytes e id (seen s l)) ≤ 34
 event-bound e id s l = rw (event-length e id s l) (longest e)
 
 -- ---- the header lies within the frame
@@ -145,7 +146,7 @@ span-fits event.SomeipMismatch s l h k = someip-fits s (l .someip) (h .someip)
 laid :
     (e : Event) (id : ℕ) (s : List ℕ) (l : Layers) (space : List ℕ) (n : ℕ) → 34 ≤ length space → n ≡ lengthOf e - 4
     → heading (numberOf e) id ++ (array (length (take n (drop 4 space))) (headerIn s (spanOf e l)) ++ drop n (drop 4 space))
-    ≡ eventBytes e id s l ++ drop (length (eventBytes e id s l)) space
+    ≡ eventBytes e id (seen s l) ++ drop (length (eventBytes e id (seen s l))) space
 laid e id s l space n h q =
     let k : n ≤ length (drop 4 space) = rw (length-drop 4 space) (omega (arith, longest e)) in
     let m : 4 + n ≡ lengthOf e = omega (arith, shortest e) in
@@ -156,7 +157,7 @@ pub event-laid :
     (e : Event) (id : ℕ) (s : List ℕ) (l : Layers) (space w ys : List ℕ) (stop : ℕ) (p : Span) → 34 ≤ length space
     → w ≡ heading (numberOf e) id ++ drop 4 space → stop ≡ lengthOf e → p ≡ spanOf e l
     → ys ≡ array (length (take (stop - 4) (drop 4 w))) (take (p .at + p .len - p .at) (drop (p .at) s))
-    → take 4 w ++ (ys ++ drop (stop - 4) (drop 4 w)) ≡ eventBytes e id s l ++ drop (length (eventBytes e id s l)) space
+    → take 4 w ++ (ys ++ drop (stop - 4) (drop 4 w)) ≡ eventBytes e id (seen s l) ++ drop (length (eventBytes e id (seen s l))) space
 event-laid e id s l space w ys stop p h a b c d =
     let k : p .at + p .len - p .at ≡ p .len = omega arith in
     rw (d, k, a, c) (laid e id s l space (stop - 4) h (ap (λ n. n - 4) b))

@@ -1,10 +1,11 @@
 -- The event's bytes: 001 section 7.6.1, as document 01, 'Verdicts, events, refusals', fixes it.
--- s is the frame's bytes, l the layers read from them, id the rule id that the event names.
+-- s is a frame's bytes, x what is seen of it, id the rule id that the event names.
 -- Assumes nothing.
 use Prim.Native.Nat.{ℕ, _/_, _%_}
+use mathlib.Core.Path.{_≡_}
 use mathlib.Core.List.{List, [], _∷_, _++_}
 use mathlib.Core.Bool.{cond}
-use lib.ListN.{take, drop}
+use lib.ListN.{length, take, drop}
 use lib.Dec.{eqb}
 use Rattle.numbers.specs.Lists.{copies}
 use Rattle.layers.specs.declared.Ip.{Ip}
@@ -13,7 +14,7 @@ use Rattle.layers.specs.declared.Transport.{Transport}
 use Rattle.layers.specs.declared.Transport.the-variants as transport
 use Rattle.layers.specs.declared.Someip.{Someip}
 use Rattle.layers.specs.declared.Someip.the-variants as someip
-use Rattle.layers.specs.declared.Layers.{Layers}
+use Rattle.layers.specs.Seen.{Seen}
 use Rattle.table.specs.declared.Rule.{Rule}
 use Rattle.table.specs.Settings.{ofKind}
 use Rattle.table.specs.Table.{isTcp}
@@ -33,8 +34,8 @@ abbrev pub part : List ℕ → ℕ → ℕ → List ℕ
 part s at len = take len (drop at s)
 
 -- the headers, empty where the frame has none
-abbrev pub linkHeader : List ℕ → Layers → List ℕ
-linkHeader s l = part s 0 (l .link .hlen)
+abbrev pub linkHeader : Seen → List ℕ
+linkHeader x = part (x .bytes) 0 (x .layers .link .hlen)
 
 abbrev pub ipv4Header : List ℕ → Ip → List ℕ
 ipv4Header s ip.Absent = []
@@ -68,14 +69,14 @@ pub data Row : Type 0 where
   CompleteSOMEIPHeader : Row
   MAC-Address : Row
 
-abbrev pub rowBytes : ℕ → List ℕ → Layers → Row → List ℕ
-rowBytes id s l FirewallRuleId = word16 id
-rowBytes id s l CompleteEthernetHeader = array 30 (linkHeader s l)
-rowBytes id s l CompleteIPv4Header = array 24 (ipv4Header s (l .ip))
-rowBytes id s l CompleteTCPHeader = array 24 (tcpHeader s (l .transport))
-rowBytes id s l CompleteUDPHeader = array 8 (udpHeader s (l .transport))
-rowBytes id s l CompleteSOMEIPHeader = array 16 (someipHeader s (l .someip))
-rowBytes id s l MAC-Address = array 6 (sourceMac s)
+abbrev pub rowBytes : ℕ → Seen → Row → List ℕ
+rowBytes id x FirewallRuleId = word16 id
+rowBytes id x CompleteEthernetHeader = array 30 (linkHeader x)
+rowBytes id x CompleteIPv4Header = array 24 (ipv4Header (x .bytes) (x .layers .ip))
+rowBytes id x CompleteTCPHeader = array 24 (tcpHeader (x .bytes) (x .layers .transport))
+rowBytes id x CompleteUDPHeader = array 8 (udpHeader (x .bytes) (x .layers .transport))
+rowBytes id x CompleteSOMEIPHeader = array 16 (someipHeader (x .bytes) (x .layers .someip))
+rowBytes id x MAC-Address = array 6 (sourceMac (x .bytes))
 
 -- 001's number of each event, and its rows
 abbrev pub numberOf : Event → ℕ
@@ -98,13 +99,30 @@ rowsOf event.TcpMismatch = FirewallRuleId ∷ CompleteTCPHeader ∷ []
 rowsOf event.UdpMismatch = FirewallRuleId ∷ CompleteUDPHeader ∷ []
 rowsOf event.SomeipMismatch = FirewallRuleId ∷ CompleteSOMEIPHeader ∷ []
 
-abbrev pub rowsBytes : ℕ → List ℕ → Layers → List Row → List ℕ
-rowsBytes id s l [] = []
-rowsBytes id s l (r ∷ rs) = rowBytes id s l r ++ rowsBytes id s l rs
+abbrev pub rowsBytes : ℕ → Seen → List Row → List ℕ
+rowsBytes id x [] = []
+rowsBytes id x (r ∷ rs) = rowBytes id x r ++ rowsBytes id x rs
 
 -- "Event: number as 16 bits, then the context data of 001 section 7.6.1, row by row"
-unfoldable pub eventBytes : Event → ℕ → List ℕ → Layers → List ℕ
-eventBytes e id s l = word16 (numberOf e) ++ rowsBytes id s l (rowsOf e)
+unfoldable pub eventBytes : Event → ℕ → Seen → List ℕ
+eventBytes e id x = word16 (numberOf e) ++ rowsBytes id x (rowsOf e)
+
+-- the longest event has so many bytes
+abbrev pub longestEvent : ℕ
+longestEvent = 34
+
+-- the event space that a judged frame asks, in bytes
+abbrev pub eventRoom : ℕ
+eventRoom = 256
+
+-- "a judged call writes only the event's length of bytes"
+abbrev pub written : List ℕ → List ℕ → List ℕ
+written event space = event ++ drop (length event) space
+
+-- an event at the start of a space: how many bytes were written, and the space after it
+pub record Wrote (event space after : List ℕ) (n : ℕ) : Type 0 where
+  pub count : n ≡ length event
+  pub left : after ≡ written event space
 
 -- "its next layer names the event (link, IPv4, TCP or UDP by that rule's kind, SOME/IP)"
 unfoldable pub mismatchOf : Rule → ℕ → Event

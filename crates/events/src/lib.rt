@@ -5,8 +5,10 @@ ghost use Prim.Native.Nat.{_/_, _%_, _≤_};
 ghost use lib.ListN.{length, drop};
 ghost use Rattle.numbers.specs.Bytes.{byte};
 ghost use Rattle.layers.specs.Inside.{Inside};
+ghost use Rattle.layers.specs.Layers.{least};
+ghost use Rattle.layers.specs.Seen.{seen};
 ghost use Rattle.table.specs.Words.{ruleIn};
-ghost use Rattle.events.specs.Events.{array, numberOf, eventBytes, mismatchOf};
+ghost use Rattle.events.specs.Events.{array, numberOf, eventBytes, longestEvent, Wrote, mismatchOf};
 ghost use Rattle.events.specs.Arrays.{
   lengthOf,
   heading,
@@ -24,6 +26,9 @@ use layers::Transport;
 use table::settings::is_tcp;
 use table::words;
 use table::words::RuleWords;
+
+// The event space that a judged frame asks, in bytes.
+pub const ROOM: usize = 256;
 
 // The events of 001 that a verdict can give.
 pub enum Event {
@@ -215,10 +220,10 @@ fn fill(header: &[u8], space: &mut [u8])
 
 // Writes the event to the start of the space, and nothing beyond it.
 pub fn write(e: Event, id: u16, frame: &[u8], l: Layers, space: &mut [u8]) -> usize
-    requires { ⌜ Inside (now frame) l ⌝ }
-    requires { ⌜ 14 ≤ length (now frame) ⌝ }
-    requires { ⌜ 34 ≤ length (now space) ⌝ }
-    ensures { λ r. ⌜ (r ≡ length (eventBytes e id (now (frame .entry)) l)) × (now (space .exit) ≡ eventBytes e id (now (frame .entry)) l ++ drop (length (eventBytes e id (now (frame .entry)) l)) (now (space .entry))) ⌝ }
+    requires inside { ⌜ Inside (now frame) l ⌝ }
+    requires long { ⌜ least ≤ length (now frame) ⌝ }
+    requires room { ⌜ longestEvent ≤ length (now space) ⌝ }
+    ensures { λ r. ⌜ Wrote (eventBytes e id (seen (now (frame .entry)) l)) (now (space .entry)) (now (space .exit)) r ⌝ }
 {
     head(e.number(), id, space);
     let span = span_of(e, l);

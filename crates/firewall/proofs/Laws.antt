@@ -12,15 +12,19 @@ use Rattle.layers.specs.declared.Layers.{Layers}
 use Rattle.layers.specs.declared.FrameRefusal.{FrameRefusal}
 use Rattle.layers.specs.declared.Shown.{Shown}
 use Rattle.layers.specs.declared.Shown.the-variants as shown
-use Rattle.layers.specs.Layers.{refusalNumber, shownOf}
+use Rattle.layers.specs.Layers.{shownOf}
+use Rattle.layers.specs.Seen.{seen}
 use Rattle.table.specs.declared.Table.{Table}
-use Rattle.table.specs.declared.Fault.{Fault}
-use Rattle.table.specs.declared.Fault.the-variants as fault
-use Rattle.table.specs.Table.{faultOf}
-use Rattle.records.specs.Records.{Words, words, recordsOf, Shaped}
+use Rattle.faults.specs.declared.Fault.{Fault}
+use Rattle.faults.specs.declared.Fault.the-variants as fault
+use Rattle.faults.specs.Faults.{faultOf}
+use Rattle.records.specs.Records.{Lent, lent, recordsOf, Shaped}
 use Rattle.records.specs.Good.{recordsGood}
 use Rattle.records.specs.Step.{freshOf, switchedTo}
-use Rattle.steps.specs.Steps.{Arrival, outcomeOf, Stepped, steppedAs}
+use Rattle.events.specs.Events.{eventRoom}
+use Rattle.steps.specs.declared.Answer.{Answer}
+use Rattle.steps.specs.Steps.{Arrival, outcomeOf, Stepped, stepped, steppedAs}
+use Rattle.firewall.specs.declared.refusal.Refusal.{Refusal}
 use Rattle.steps.proofs.Laws.{words-are}
 use Rattle.firewall.specs.Firewall.{
   Said,
@@ -31,20 +35,22 @@ use Rattle.firewall.specs.Firewall.{
   badTable,
   badRecord,
   noSuchState,
+  badFrame,
   After,
+  says,
+  AfterCall,
+  leaves,
   ifTable,
   checkOf,
-  Left,
   startOf,
   switchOf,
-  refusedAs,
   afterFrame,
   judgeOf,
 }
 
 -- ---- check
 
-module _ (t : Table) (w : Words) where
+module _ (t : Table) (w : Lent) where
   pub check-table : (place : ℕ) → faultOf t ≡ fault.At place → badTable place ≡ checkOf t w
   unfolding checkOf
   check-table place e = rw e
@@ -59,11 +65,11 @@ module _ (t : Table) (w : Words) where
 
 -- what is refused was refused by the check
 first-refused :
-    {A : Type 0} (say : Said → A) (rest : A) (n p : ℕ) (f : Fault) (b : Bool) → refused n p ≡ ifTable f badTable (cond b done badRecord)
-    → say (refused n p) ≡ ifTable f (λ place. say (badTable place)) (cond b rest (say badRecord))
-first-refused say rest n p (fault.At place) b e = ap say e
-first-refused say rest n p fault.Good false e = ap say e
-first-refused say rest n p fault.Good true e = let z : _≡_ {A = ℕ} 0 1 = cc in absurd (omega arith)
+    {A : Type 0} (say : Said → A) (rest : A) (r : Refusal) (f : Fault) (b : Bool) → refused r ≡ ifTable f badTable (cond b done badRecord)
+    → say (refused r) ≡ ifTable f (λ place. say (badTable place)) (cond b rest (say badRecord))
+first-refused say rest r (fault.At place) b e = ap say e
+first-refused say rest r fault.Good false e = ap say e
+first-refused say rest r fault.Good true e = let z : _≡_ {A = ℕ} 0 1 = cc in absurd (omega arith)
 
 -- and what is not refused is good
 none-refused : (f : Fault) (b : Bool) → done ≡ ifTable f badTable (cond b done badRecord) → (f ≡ fault.Good) × (b ≡ true)
@@ -71,20 +77,20 @@ none-refused (fault.At place) b e = let z : _≡_ {A = ℕ} 0 1 = cc in absurd (
 none-refused fault.Good false e = let z : _≡_ {A = ℕ} 0 1 = cc in absurd (omega arith)
 none-refused fault.Good true e = (refl, refl)
 
-pub checked-good : (t : Table) (w : Words) → done ≡ checkOf t w → (faultOf t ≡ fault.Good) × (recordsGood t (recordsOf w) ≡ true)
+pub checked-good : (t : Table) (w : Lent) → done ≡ checkOf t w → (faultOf t ≡ fault.Good) × (recordsGood t (recordsOf w) ≡ true)
 unfolding checkOf
 checked-good t w e = none-refused (faultOf t) (recordsGood t (recordsOf w)) e
 
 -- ---- fresh
 
-module _ (t : Table) (reading : ℕ) (w : Words) where
-  pub start-refused : (place : ℕ) → faultOf t ≡ fault.At place → _≡_ {A = Left} (record { said = badTable place; words = w }) (startOf t reading w)
+module _ (t : Table) (reading : ℕ) (w : Lent) where
+  pub start-refused : (place : ℕ) → faultOf t ≡ fault.At place → leaves (badTable place) w ≡ startOf t reading w
   unfolding startOf
   start-refused place e = rw e
 
   pub start-fresh :
-      (after : Words) → faultOf t ≡ fault.Good → Shaped after → recordsOf after ≡ freshOf reading
-      → _≡_ {A = Left} (record { said = done; words = after }) (startOf t reading w)
+      (after : Lent) → faultOf t ≡ fault.Good → Shaped after → recordsOf after ≡ freshOf reading
+      → leaves done after ≡ startOf t reading w
   unfolding startOf
   start-fresh after e h q = rw (e, words-are after (freshOf reading) h q)
 
@@ -93,56 +99,59 @@ module _ (t : Table) (reading : ℕ) (w : Words) where
 -- a word set anew in the head
 switched-records :
     (state : ℕ) (h : List ℕ) (c : List (List ℕ)) (p : List (List (List ℕ))) → length h ≡ 2
-    → recordsOf (words (set h 1 state) c p) ≡ switchedTo state (recordsOf (words h c p))
+    → recordsOf (lent (set h 1 state) c p) ≡ switchedTo state (recordsOf (lent h c p))
 unfolding recordsOf switchedTo
 switched-records state h c p e =
     λ i. record {
       last = getD-set-other h 1 0 state 0 (λ q. absurd (omega arith)) i;
       state = getD-set-same h 1 state 0 (omega arith) i;
-      rules = recordsOf (words h c p) .rules;
+      rules = recordsOf (lent h c p) .rules;
     }
 
-module _ (t : Table) (state : ℕ) (w : Words) where
-  pub switch-refused : (n p : ℕ) → refused n p ≡ checkOf t w → _≡_ {A = Left} (record { said = refused n p; words = w }) (switchOf t state w)
+module _ (t : Table) (state : ℕ) (w : Lent) where
+  pub switch-refused : (r : Refusal) → refused r ≡ checkOf t w → leaves (refused r) w ≡ switchOf t state w
   unfolding checkOf switchOf
-  switch-refused n p e = first-refused (λ x. record { said = x; words = w }) _ n p (faultOf t) (recordsGood t (recordsOf w)) e
+  switch-refused r e = first-refused (λ x. leaves x w) _ r (faultOf t) (recordsGood t (recordsOf w)) e
 
   pub switch-beyond :
-      done ≡ checkOf t w → t .statecount ≤ state → _≡_ {A = Left} (record { said = noSuchState; words = w }) (switchOf t state w)
+      done ≡ checkOf t w → t .statecount ≤ state → leaves noSuchState w ≡ switchOf t state w
   unfolding switchOf
   switch-beyond e h = let g = checked-good t w e in rw (g .0, g .1, le-ltb state (t .statecount) h)
 
 pub switch-done :
-    (t : Table) (state : ℕ) (h k : List ℕ) (c : List (List ℕ)) (p : List (List (List ℕ))) → done ≡ checkOf t (words h c p)
-    → state < t .statecount → Shaped (words h c p) → k ≡ set h 1 state
-    → _≡_ {A = Left} (record { said = done; words = words k c p }) (switchOf t state (words h c p))
+    (t : Table) (state : ℕ) (h k : List ℕ) (c : List (List ℕ)) (p : List (List (List ℕ))) → done ≡ checkOf t (lent h c p)
+    → state < t .statecount → Shaped (lent h c p) → k ≡ set h 1 state
+    → leaves done (lent k c p) ≡ switchOf t state (lent h c p)
 unfolding switchOf
 switch-done t state h k c p e m s q =
-    let g = checked-good t (words h c p) e in
+    let g = checked-good t (lent h c p) e in
     rw (g .0, g .1, lt-ltb state (t .statecount) m, q)
-    (λ i. record { said = done; words = words-are (words (set h 1 state) c p) _ (shaped (s .head)) (switched-records state h c p (s .head)) i })
+    (ap (leaves done) (words-are (lent (set h 1 state) c p) _ (shaped (s .head)) (switched-records state h c p (s .head))))
   where
-    shaped : length h ≡ 2 → Shaped (words (set h 1 state) c p)
+    shaped : length h ≡ 2 → Shaped (lent (set h 1 state) c p)
     shaped e = record { head = length-set h 1 state ∙ e; counts = s .counts; places = s .places }
 
 -- ---- judge
 
-module _ (t : Table) (w : Words) (a : Arrival) (space : List ℕ) where
-  pub judge-refused : (n p : ℕ) → refused n p ≡ checkOf t w → refusedAs (refused n p) w space ≡ judgeOf t w a space
+module _ (t : Table) (w : Lent) (a : Arrival) (space : List ℕ) where
+  pub judge-refused : (r : Refusal) → refused r ≡ checkOf t w → says (refused r) w space ≡ judgeOf t w a space
   unfolding checkOf judgeOf
-  judge-refused n p e = first-refused (λ x. refusedAs x w space) _ n p (faultOf t) (recordsGood t (recordsOf w)) e
+  judge-refused r e = first-refused (λ x. says x w space) _ r (faultOf t) (recordsGood t (recordsOf w)) e
 
   pub judge-frame : done ≡ checkOf t w → afterFrame t w a space (shownOf (a .bytes)) ≡ judgeOf t w a space
   unfolding judgeOf
   judge-frame e = let g = checked-good t w e in rw (g .0, g .1)
 
-  pub frame-refused : (s : Shown) (f : FrameRefusal) → s ≡ shown.Refused f → refusedAs (refused (refusalNumber f) 0) w space ≡ afterFrame t w a space s
+  pub frame-refused : (s : Shown) (f : FrameRefusal) → s ≡ shown.Refused f → says (badFrame f) w space ≡ afterFrame t w a space s
   frame-refused s f e = rw e
 
-  pub frame-tight : (s : Shown) (l : Layers) → s ≡ shown.Shows l → length space < 256 → refusedAs noSpace w space ≡ afterFrame t w a space s
-  frame-tight s l e h = rw (e, lt-ltb (length space) 256 h)
+  pub frame-tight : (s : Shown) (l : Layers) → s ≡ shown.Shows l → length space < eventRoom → says noSpace w space ≡ afterFrame t w a space s
+  frame-tight s l e h = rw (e, lt-ltb (length space) eventRoom h)
 
   pub frame-judged :
-      (s : Shown) (l : Layers) (x : Stepped) → s ≡ shown.Shows l → 256 ≤ length space → x ≡ steppedAs (outcomeOf t (recordsOf w) a l) space
-      → _≡_ {A = After} (record { said = answered (x .verdict) (x .rule) (x .length); words = x .words; space = x .space }) (afterFrame t w a space s)
-  frame-judged s l x e h q = rw (e, le-ltb (length space) 256 h, q)
+      (s : Shown) (l : Layers) (r : Answer) (two : Lent) (left : List ℕ) → s ≡ shown.Shows l → eventRoom ≤ length space
+      → stepped r two left ≡ steppedAs (outcomeOf t (recordsOf w) (a .reading) (seen (a .bytes) l)) space
+      → says (answered (r .verdict .number) (r .rule) (r .length)) two left ≡ afterFrame t w a space s
+  frame-judged s l r two left e h q =
+      rw (e, le-ltb (length space) eventRoom h)
+      (ap (λ (x : Stepped). says (answered (x .verdict) (x .rule) (x .length)) (x .words) (x .space)) q)

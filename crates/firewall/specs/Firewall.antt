@@ -6,16 +6,19 @@ use mathlib.Core.Bool.{cond}
 use lib.ListN.{length}
 use lib.Dec.{ltb}
 use Rattle.layers.specs.Layers.{refusalNumber, shownOf}
+use Rattle.layers.specs.declared.FrameRefusal.{FrameRefusal}
 use Rattle.layers.specs.declared.Shown.{Shown}
 use Rattle.layers.specs.declared.Shown.the-variants as shown
 use Rattle.table.specs.declared.Table.{Table}
-use Rattle.table.specs.declared.Fault.{Fault}
-use Rattle.table.specs.declared.Fault.the-variants as fault
-use Rattle.table.specs.Table.{faultOf}
-use Rattle.records.specs.Records.{Words, recordsOf, wordsOf}
+use Rattle.faults.specs.declared.Fault.{Fault}
+use Rattle.faults.specs.declared.Fault.the-variants as fault
+use Rattle.faults.specs.Faults.{faultOf}
+use Rattle.records.specs.Records.{Lent, recordsOf, wordsOf}
 use Rattle.records.specs.Good.{recordsGood}
 use Rattle.records.specs.Step.{freshOf, switchedTo}
-use Rattle.steps.specs.Steps.{Arrival, Outcome, outcomeOf, written}
+use Rattle.events.specs.Events.{written, eventRoom}
+use Rattle.steps.specs.Steps.{Arrival, seenOf, Outcome, outcomeOf}
+use Rattle.firewall.specs.declared.refusal.Refusal.{Refusal}
 use Rattle.firewall.specs.declared.Checked.{Checked}
 use Rattle.firewall.specs.declared.Checked.the-variants as checked
 use Rattle.firewall.specs.declared.Started.{Started}
@@ -25,48 +28,67 @@ use Rattle.firewall.specs.declared.Switched.the-variants as switched
 use Rattle.firewall.specs.declared.Judged.{Judged}
 use Rattle.firewall.specs.declared.Judged.the-variants as judged
 
--- What the paper says of a call: a refusal by its number, and the place where 4 names one; done, where there is no more to say;
+-- What the paper says of a call: a refusal, by its number and the place where 4 names one; done, where there is no more to say;
 -- or "verdict, the deciding rule's id and event length"
 pub data Said : Type 0 where
-  refused : ℕ → ℕ → Said
+  refused : Refusal → Said
   done : Said
   answered : ℕ → ℕ → ℕ → Said
 
 -- the paper's numbers and values of each case of each answer
 abbrev pub saidChecked : Checked → Said
-saidChecked (checked.Refused r) = refused (r .number) (r .place)
+saidChecked (checked.Refused r) = refused r
 saidChecked checked.Good = done
 
 abbrev pub saidStarted : Started → Said
-saidStarted (started.Refused r) = refused (r .number) (r .place)
+saidStarted (started.Refused r) = refused r
 saidStarted started.Fresh = done
 
 abbrev pub saidSwitched : Switched → Said
-saidSwitched (switched.Refused r) = refused (r .number) (r .place)
+saidSwitched (switched.Refused r) = refused r
 saidSwitched switched.Done = done
 
 abbrev pub saidJudged : Judged → Said
-saidJudged (judged.Refused r) = refused (r .number) (r .place)
+saidJudged (judged.Refused r) = refused r
 saidJudged (judged.Answered a) = answered (a .verdict .number) (a .rule) (a .length)
 
--- the refusals, each "given exactly when"
+-- the refusals, each "given exactly when"; all but 4 have a number alone
+abbrev pub plain : ℕ → Refusal
+plain n = record { number = n; place = 0 }
+
+abbrev pub badFrame : FrameRefusal → Said
+badFrame f = refused (plain (refusalNumber f))
+
 abbrev pub noSpace : Said
-noSpace = refused 3 0
+noSpace = refused (plain 3)
 
 abbrev pub badTable : ℕ → Said
-badTable place = refused 4 place
+badTable place = refused (record { number = 4; place = place })
 
 abbrev pub badRecord : Said
-badRecord = refused 5 0
+badRecord = refused (plain 5)
 
 abbrev pub noSuchState : Said
-noSuchState = refused 6 0
+noSuchState = refused (plain 6)
 
 -- what a call says, and the words and the event space after it
 pub record After : Type 0 where
   pub said : Said
-  pub words : Words
+  pub words : Lent
   pub space : List ℕ
+
+-- the call says x, and these are the words and the space after it
+abbrev pub says : Said → Lent → List ℕ → After
+says x w space = record { said = x; words = w; space = space }
+
+-- the same of a call without an event space
+pub record AfterCall : Type 0 where
+  pub said : Said
+  pub words : Lent
+
+-- the call says x, and these are the words after it
+abbrev pub leaves : Said → Lent → AfterCall
+leaves x w = record { said = x; words = w }
 
 -- "Order: 4, 5, 6, 1, 2, 3, each where the call has that argument": a bad table is refused, or the rest goes on
 abbrev pub ifTable : {A : Type 0} → Fault → (ℕ → A) → A → A
@@ -74,46 +96,35 @@ ifTable (fault.At place) refuse rest = refuse place
 ifTable fault.Good refuse rest = rest
 
 -- "bad rule table, with the place of the first rule at fault", then "bad record"
-unfoldable pub checkOf : Table → Words → Said
+unfoldable pub checkOf : Table → Lent → Said
 checkOf t w = ifTable (faultOf t) badTable (cond (recordsGood t (recordsOf w)) done badRecord)
 
--- what a call without an event space says, and the words after it
-pub record Left : Type 0 where
-  pub said : Said
-  pub words : Words
+-- a fresh record; "A refusal returns its number and no verdict. The records .. then hold what they held"
+unfoldable pub startOf : Table → ℕ → Lent → AfterCall
+startOf t reading w = ifTable (faultOf t) (λ place. leaves (badTable place) w) (leaves done (wordsOf (freshOf reading)))
 
-unfoldable pub startOf : Table → ℕ → Words → Left
-startOf t reading w =
-    ifTable (faultOf t) (λ place. record { said = badTable place; words = w })
-    (record { said = done; words = wordsOf (freshOf reading) })
-
-unfoldable pub switchOf : Table → ℕ → Words → Left
+-- a switch of vehicle state, "4, 5, 6"
+unfoldable pub switchOf : Table → ℕ → Lent → AfterCall
 switchOf t state w =
-    ifTable (faultOf t) (λ place. record { said = badTable place; words = w })
+    ifTable (faultOf t) (λ place. leaves (badTable place) w)
     (cond (recordsGood t (recordsOf w))
-    (cond (ltb state (t .statecount))
-    (record { said = done; words = wordsOf (switchedTo state (recordsOf w)) })
-    (record { said = noSuchState; words = w }))
-    (record { said = badRecord; words = w }))
+    (cond (ltb state (t .statecount)) (leaves done (wordsOf (switchedTo state (recordsOf w)))) (leaves noSuchState w))
+    (leaves badRecord w))
 
 -- a judged call: the outcome's verdict, rule id and event length, its records, and its event at the start of the space
 abbrev pub judgedAs : Outcome → List ℕ → After
-judgedAs o space = record {
-  said = answered (o .verdict) (o .rule) (length (o .event));
-  words = wordsOf (o .records);
-  space = written (o .event) space;
-}
+judgedAs o space =
+    says (answered (o .verdict) (o .rule) (length (o .event))) (wordsOf (o .records)) (written (o .event) space)
 
--- "A refusal returns its number and no verdict. The records and event space then hold what they held"
-abbrev pub refusedAs : Said → Words → List ℕ → After
-refusedAs x w space = record { said = x; words = w; space = space }
-
-abbrev pub afterFrame : Table → Words → Arrival → List ℕ → Shown → After
-afterFrame t w a space (shown.Refused f) = refusedAs (refused (refusalNumber f) 0) w space
+-- a frame, for a good table and a good record: "1, 2, 3", and "the records and event space then hold what they held"; or it is judged
+abbrev pub afterFrame : Table → Lent → Arrival → List ℕ → Shown → After
+afterFrame t w a space (shown.Refused f) = says (badFrame f) w space
 afterFrame t w a space (shown.Shows l) =
-    cond (ltb (length space) 256) (refusedAs noSpace w space) (judgedAs (outcomeOf t (recordsOf w) a l) space)
+    cond (ltb (length space) eventRoom) (says noSpace w space)
+    (judgedAs (outcomeOf t (recordsOf w) (a .reading) (seenOf a l)) space)
 
-unfoldable pub judgeOf : Table → Words → Arrival → List ℕ → After
+-- "4, 5", then the frame
+unfoldable pub judgeOf : Table → Lent → Arrival → List ℕ → After
 judgeOf t w a space =
-    ifTable (faultOf t) (λ place. refusedAs (badTable place) w space)
-    (cond (recordsGood t (recordsOf w)) (afterFrame t w a space (shownOf (a .bytes))) (refusedAs badRecord w space))
+    ifTable (faultOf t) (λ place. says (badTable place) w space)
+    (cond (recordsGood t (recordsOf w)) (afterFrame t w a space (shownOf (a .bytes))) (says badRecord w space))

@@ -2,12 +2,15 @@
 ghost use mathlib.Core.Path.{_≡_};
 ghost use mathlib.Core.Bool.{true};
 ghost use Rattle.layers.specs.Layers.{shownOf};
-ghost use Rattle.table.specs.declared.Fault.the-variants as fault;
-ghost use Rattle.table.specs.Table.{faultOf};
+ghost use Rattle.faults.specs.declared.Fault.the-variants as fault;
+ghost use Rattle.faults.specs.Faults.{faultOf};
 ghost use Rattle.table.specs.Words.{tableIn};
-ghost use Rattle.records.specs.Records.{recordsOf, words};
+ghost use Rattle.records.specs.Records.{recordsOf, lent, before, after};
 ghost use Rattle.records.specs.Good.{recordsGood};
+ghost use Rattle.steps.specs.Steps.{arrival};
 ghost use Rattle.firewall.specs.Firewall.{
+  leaves,
+  says,
   saidChecked,
   saidStarted,
   saidSwitched,
@@ -22,6 +25,9 @@ ghost use Rattle.firewall.specs.Firewall.{
 pub mod refusal;
 
 pub use crate::refusal::Refusal;
+use events::ROOM;
+use faults::Fault;
+use faults::first_fault;
 use layers::Shown;
 use records::Counts;
 use records::Head;
@@ -29,9 +35,9 @@ use records::Places;
 use records::shape::shape;
 use steps::Answer;
 use steps::step;
-use table::Fault;
 use table::Table;
-use table::faults::fault;
+use table::words::ROW_WORDS;
+use table::words::ROWS;
 use table::words::TableWords;
 use table::words::statecount;
 
@@ -57,9 +63,9 @@ pub enum Judged {
 
 // Is the table good, and then the record?
 pub fn check(t: &TableWords, head: &Head, counts: &Counts, places: &Places) -> Checked
-    ensures { λ r. ⌜ saidChecked r ≡ checkOf (tableIn (now (t .entry))) (words (now (head .entry)) (now (counts .entry)) (now (places .entry))) ⌝ }
+    ensures { λ r. ⌜ saidChecked r ≡ checkOf (tableIn (now (t .entry))) (before head counts places) ⌝ }
 {
-    let f = fault(t);
+    let f = first_fault(t);
     let Fault::At(place) = f else {
         if records::good::good(t, head, counts, places) {
             return Checked::Good;
@@ -77,9 +83,9 @@ pub fn fresh(
     counts: &mut Counts,
     places: &mut Places,
 ) -> Started
-    ensures { λ r. ⌜ record { said = saidStarted r; words = words (now (head .exit)) (now (counts .exit)) (now (places .exit)) } ≡ startOf (tableIn (now (t .entry))) reading (words (now (head .entry)) (now (counts .entry)) (now (places .entry))) ⌝ }
+    ensures { λ r. ⌜ leaves (saidStarted r) (after head counts places) ≡ startOf (tableIn (now (t .entry))) reading (before head counts places) ⌝ }
 {
-    let f = fault(t);
+    let f = first_fault(t);
     let Fault::At(place) = f else {
         records::fresh::fresh(reading, head, counts, places);
         shape(*head, *counts, *places);
@@ -96,7 +102,10 @@ pub fn switch(
     counts: &Counts,
     places: &Places,
 ) -> Switched
-    ensures { λ r. ⌜ record { said = saidSwitched r; words = words (now (head .exit)) (now (counts .entry)) (now (places .entry)) } ≡ switchOf (tableIn (now (t .entry))) state (words (now (head .entry)) (now (counts .entry)) (now (places .entry))) ⌝ }
+    ensures { λ r. ⌜
+        leaves (saidSwitched r) (after head counts places)
+        ≡ switchOf (tableIn (now (t .entry))) state (before head counts places)
+        ⌝ }
 {
     let checked = check(t, head, counts, places);
     let Checked::Refused(refusal) = checked else {
@@ -121,15 +130,19 @@ fn judge_frame(
     space: &mut [u8],
 ) -> Judged
     requires { ⌜ faultOf (tableIn (now t)) ≡ fault.Good ⌝ }
-    requires { ⌜ recordsGood (tableIn (now t)) (recordsOf (words (now head) (now counts) (now places))) ≡ true ⌝ }
-    ensures { λ r. ⌜ record { said = saidJudged r; words = words (now (head .exit)) (now (counts .exit)) (now (places .exit)); space = now (space .exit) } ≡ afterFrame (tableIn (now (t .entry))) (words (now (head .entry)) (now (counts .entry)) (now (places .entry))) (record { reading = reading; bytes = now (frame .entry) }) (now (space .entry)) (shownOf (now (frame .entry))) ⌝ }
+    requires { ⌜ recordsGood (tableIn (now t)) (recordsOf (lent (now head) (now counts) (now places))) ≡ true ⌝ }
+    ensures { λ r. ⌜
+        says (saidJudged r) (after head counts places) (now (space .exit))
+        ≡ afterFrame (tableIn (now (t .entry))) (before head counts places) (arrival reading (now (frame .entry))) (now (space .entry))
+        (shownOf (now (frame .entry)))
+        ⌝ }
 {
     // Not let .. else: it binds one case, here both hold something, and every way owes an answer.
     let l = match layers::read(frame) {
         Shown::Refused(f) => return Judged::Refused(Refusal::of_frame(f)),
         Shown::Shows(l) => l,
     };
-    if space.len() < 256 {
+    if space.len() < ROOM {
         return Judged::Refused(Refusal::no_space());
     }
     Judged::Answered(step(t, frame, l, reading, head, counts, places, space))
@@ -145,7 +158,10 @@ pub fn judge(
     reading: u64,
     space: &mut [u8],
 ) -> Judged
-    ensures { λ r. ⌜ record { said = saidJudged r; words = words (now (head .exit)) (now (counts .exit)) (now (places .exit)); space = now (space .exit) } ≡ judgeOf (tableIn (now (t .entry))) (words (now (head .entry)) (now (counts .entry)) (now (places .entry))) (record { reading = reading; bytes = now (frame .entry) }) (now (space .entry)) ⌝ }
+    ensures { λ r. ⌜
+        says (saidJudged r) (after head counts places) (now (space .exit))
+        ≡ judgeOf (tableIn (now (t .entry))) (before head counts places) (arrival reading (now (frame .entry))) (now (space .entry))
+        ⌝ }
 {
     let checked = check(t, head, counts, places);
     let Checked::Refused(refusal) = checked else {
@@ -165,12 +181,11 @@ pub fn judge_table(
     space: &mut [u8],
 ) -> Judged
     ensures { λ r. ⌜
-        record { said = saidJudged r; words = words (now (head .exit)) (now (counts .exit)) (now (places .exit)); space = now (space .exit) }
-        ≡ judgeOf t (words (now (head .entry)) (now (counts .entry)) (now (places .entry)))
-        (record { reading = reading; bytes = now (frame .entry) }) (now (space .entry))
+        says (saidJudged r) (after head counts places) (now (space .exit))
+        ≡ judgeOf t (before head counts places) (arrival reading (now (frame .entry))) (now (space .entry))
         ⌝ }
 {
-    let mut w: TableWords = [[0; 8]; 73];
+    let mut w: TableWords = [[0; ROW_WORDS]; ROWS];
     lay::table(t, &mut w);
     judge(&w, head, counts, places, frame, reading, space)
 }

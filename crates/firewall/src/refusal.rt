@@ -1,6 +1,7 @@
 // The refusals of the paper.
 ghost use mathlib.Core.Path.{_≡_};
 ghost use Rattle.layers.specs.Layers.{refusalNumber};
+ghost use Rattle.firewall.specs.Firewall.{plain};
 use layers::FrameRefusal;
 
 // A refusal's number, and for a bad table the place of the first rule at fault, 64 for the states or the rule count; else 0.
@@ -23,7 +24,7 @@ impl Refusal {
     pub const NO_SUCH_STATE: u8 = 6;
 
     pub(crate) fn too_short() -> Refusal
-        ensures { λ r. ⌜ r ≡ record { number = 1; place = 0 } ⌝ }
+        ensures { λ r. ⌜ r ≡ plain 1 ⌝ }
     {
         Refusal {
             number: Refusal::TOO_SHORT,
@@ -32,7 +33,7 @@ impl Refusal {
     }
 
     pub(crate) fn too_long() -> Refusal
-        ensures { λ r. ⌜ r ≡ record { number = 2; place = 0 } ⌝ }
+        ensures { λ r. ⌜ r ≡ plain 2 ⌝ }
     {
         Refusal {
             number: Refusal::TOO_LONG,
@@ -41,7 +42,7 @@ impl Refusal {
     }
 
     pub(crate) fn no_space() -> Refusal
-        ensures { λ r. ⌜ r ≡ record { number = 3; place = 0 } ⌝ }
+        ensures { λ r. ⌜ r ≡ plain 3 ⌝ }
     {
         Refusal {
             number: Refusal::NO_SPACE,
@@ -59,7 +60,7 @@ impl Refusal {
     }
 
     pub(crate) fn bad_record() -> Refusal
-        ensures { λ r. ⌜ r ≡ record { number = 5; place = 0 } ⌝ }
+        ensures { λ r. ⌜ r ≡ plain 5 ⌝ }
     {
         Refusal {
             number: Refusal::BAD_RECORD,
@@ -68,7 +69,7 @@ impl Refusal {
     }
 
     pub(crate) fn no_such_state() -> Refusal
-        ensures { λ r. ⌜ r ≡ record { number = 6; place = 0 } ⌝ }
+        ensures { λ r. ⌜ r ≡ plain 6 ⌝ }
     {
         Refusal {
             number: Refusal::NO_SUCH_STATE,
@@ -78,7 +79,7 @@ impl Refusal {
 
     // Hands on what reading the layers refused.
     pub(crate) fn of_frame(f: FrameRefusal) -> Refusal
-        ensures { λ r. ⌜ r ≡ record { number = refusalNumber f; place = 0 } ⌝ }
+        ensures { λ r. ⌜ r ≡ plain (refusalNumber f) ⌝ }
     {
         match f {
             FrameRefusal::TooShort => Refusal::too_short(),

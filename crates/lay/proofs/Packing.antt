@@ -1,19 +1,38 @@
 -- What is laid into the words of a row is read back: fields laid above one another, settings, layers, rules, tables.
 -- Assumes nothing.
-use Prim.Native.Nat.{ℕ, zero, suc, _+_, _*_, _/_, _^_, _<_}
-use mathlib.Core.Path.{_≡_, refl, ap, _∙_}
-use mathlib.Core.List.{List, [], _∷_, map, map-append}
-use mathlib.Core.Bool.{Bool, true, false, cond}
-use native.Mathlib.Nat.{div-one, mod-one}
+use Prim.Native.Nat.{ℕ, zero, suc, _+_, _-_, _*_, _^_, _≤_, _<_}
+use mathlib.Core.Path.{_≡_, refl, sym, ap, _∙_}
+use mathlib.Core.List.{List, [], _∷_, _++_, map, map-append}
+use mathlib.Core.Bool.{Bool, true, false, cond, _&&_}
+use native.Mathlib.Nat.{div-one, mul-assoc, pow-suc, le-of-suc-le-suc, not-suc-le-zero}
 use native.Mathlib.Numerals.{add-one}
 use native.Mathlib.Omega.{arith}
-use lib.Dec.{eqb}
+use borrow.Author.Tests.{ltb-true, leb-true}
+use lib.Dec.{eqb, ltb, leb}
 use lib.ListN.{length, getD, set, take, drop}
 use lib.Seq.{take-suc, take-suc-set, take-set-le, drop-set-lt, set-split, getD-set-same}
-use lib.Pow.{high, low, shr-shr}
-use Rattle.table.specs.Settings.{of8, of16, of32, of64, ofKind, ofRange, ofPrefix}
-use Rattle.table.specs.Table.{marked}
+use lib.Pow.{high, low, shr-shr, pow-add}
+use Rattle.numbers.specs.Lists.{copies}
+use Rattle.numbers.proofs.Lists.{and-both}
+use Rattle.table.specs.Settings.{of8, of16, of32, of64, ofKind, ofRange, ofPrefix, isUnset}
+use Rattle.table.specs.Table.{mostRules, marked}
 use Rattle.table.specs.Words.{
+  countsRow,
+  stateRow,
+  tableRows,
+  ruleCountWord,
+  stateCountWord,
+  ruleWord,
+  linkWord,
+  destinationWord,
+  sourceWord,
+  ipWord,
+  addressWord,
+  transportWord,
+  portWord,
+  someipWord,
+  rateWord,
+  trackingWord,
   word,
   bits,
   actionCode,
@@ -44,16 +63,25 @@ use Rattle.lay.specs.Fields.{
   LaidAs,
   valueOr,
   bitOf,
-  mark,
+  marksOf,
   kindOr,
   rangeOr,
   prefixOr,
-  headFields,
+  linkUnset,
+  ipv4Unset,
+  transportUnset,
+  someipUnset,
+  rateUnset,
+  trackingUnset,
+  ruleFields,
   linkFields,
+  ipFields,
   addressFields,
+  transportFields,
   portFields,
   someipFields,
-  limitFields,
+  rateFields,
+  trackingFields,
   ruleWords,
   stateWords,
   countWords,
@@ -84,19 +112,12 @@ use Rattle.table.specs.declared.Table.{Table}
 
 -- a field below those that are laid
 pub laid-on :
-    {w x u v above : ℕ} {fs : List (ℕ × ℕ)} (n : ℕ) → (w ≡ x * 2 ^ n + u) × (u < 2 ^ n) → u ≡ v → Laid fs above x
-    → Laid ((n, v) ∷ fs) above w
+    {w x u v : ℕ} {fs : List (ℕ × ℕ)} (n : ℕ) → (w ≡ x * 2 ^ n + u) × (u < 2 ^ n) → u ≡ v → Laid fs x → Laid ((n, v) ∷ fs) w
 laid-on n h e l = record { is = h .0 ∙ rw (l .is, e); fit = (rw e at (h .1), l .fit) }
 
--- the mark of a setting below them
-pub mark-on :
-    {w x above : ℕ} {fs : List (ℕ × ℕ)} {b d : Bool} → (w ≡ x * 2 + bitOf b) × (bitOf b < 2) → b ≡ d → Laid fs above x
-    → Laid ((1, bitOf d) ∷ fs) above w
-mark-on h e l = laid-on 1 h (ap bitOf e) l
-
--- no field, and a number above
-pub laid-none : (x : ℕ) → Laid [] x x
-laid-none x = record { is = refl; fit = tt }
+-- no field
+pub laid-none : Laid [] 0
+laid-none = record { is = refl; fit = tt }
 
 -- where field k starts, and what it is
 abbrev start : List (ℕ × ℕ) → ℕ → ℕ
@@ -108,20 +129,60 @@ abbrev field : List (ℕ × ℕ) → ℕ → ℕ × ℕ
 field fs k = getD fs k (0, 0)
 
 -- each field of the packed ones is read back
-field-read :
-    (fs : List (ℕ × ℕ)) (above k : ℕ) → Fits fs → bits (start fs k) (field fs k .0) (packed fs above) ≡ field fs k .1
-field-read [] above zero h = mod-one (above / 1)
-field-read [] above (suc k) h = mod-one (above / 1)
-field-read (f ∷ fs) above zero h =
-    rw (div-one (packed fs above * 2 ^ f .0 + f .1)) (low (packed fs above) (f .0) (h .0))
-field-read (f ∷ fs) above (suc k) h =
-    rw (← shr-shr (packed fs above * 2 ^ f .0 + f .1) (f .0) (start fs k), high (packed fs above) (f .0) (h .0))
-    (field-read fs above k (h .1))
+field-read : (fs : List (ℕ × ℕ)) (k : ℕ) → Fits fs → bits (start fs k) (field fs k .0) (packed fs) ≡ field fs k .1
+field-read [] zero h = refl
+field-read [] (suc k) h = refl
+field-read (f ∷ fs) zero h = rw (div-one (packed fs * 2 ^ f .0 + f .1)) (low (packed fs) (f .0) (h .0))
+field-read (f ∷ fs) (suc k) h =
+    rw (← shr-shr (packed fs * 2 ^ f .0 + f .1) (f .0) (start fs k), high (packed fs) (f .0) (h .0)) (field-read fs k (h .1))
 
 -- and so from a word that holds them
-told :
-    {fs : List (ℕ × ℕ)} {above w : ℕ} → Laid fs above w → (k : ℕ) → bits (start fs k) (field fs k .0) w ≡ field fs k .1
-told {fs} {above} {w} h k = rw (h .is) (field-read fs above k (h .fit))
+told : {fs : List (ℕ × ℕ)} {w : ℕ} → Laid fs w → (k : ℕ) → bits (start fs k) (field fs k .0) w ≡ field fs k .1
+told {fs} {w} h k = rw (h .is) (field-read fs k (h .fit))
+
+-- ---- marks
+
+-- no mark
+pub mark-none : 0 ≡ marksOf []
+mark-none = refl
+
+-- a mark below those of the settings behind it
+pub mark-on : {w x m : ℕ} {b d : Bool} → (w ≡ x * 2 + bitOf b) × (bitOf b < 2) → b ≡ d → x ≡ m → w ≡ m * 2 + bitOf d
+mark-on h e f = h .0 ∙ rw (e, f)
+
+bit-small : (b : Bool) → bitOf b < 2 ^ 1
+bit-small true = omega arith
+bit-small false = omega arith
+
+-- the lowest of them, and the others with what stands above
+lowest : (x n m b : ℕ) → x * 2 ^ suc n + (m * 2 + b) ≡ (x * 2 ^ n + m) * 2 ^ 1 + b
+lowest x n m b = rw (pow-suc 2 n, ← mul-assoc x (2 ^ n) 2) (omega arith)
+
+-- each mark is read back, whatever stands above them
+mark-read : (us : List Bool) (x k : ℕ) → k < length us → bits k 1 (x * 2 ^ length us + marksOf us) ≡ bitOf (getD us k true)
+mark-read [] x k h = absurd (not-suc-le-zero h)
+mark-read (u ∷ us) x zero h =
+    rw (lowest x (length us) (marksOf us) (bitOf u), div-one ((x * 2 ^ length us + marksOf us) * 2 ^ 1 + bitOf u))
+    (low (x * 2 ^ length us + marksOf us) 1 (bit-small u))
+mark-read (u ∷ us) x (suc k) h =
+    let e : suc k ≡ 1 + k = omega arith in
+    rw (lowest x (length us) (marksOf us) (bitOf u), e, ← shr-shr ((x * 2 ^ length us + marksOf us) * 2 ^ 1 + bitOf u) 1 k, high (x * 2 ^ length us + marksOf us) 1 (bit-small u))
+    (mark-read us x k (le-of-suc-le-suc h))
+
+-- what stands above a byte stands above n bits of it
+above-byte : (x n : ℕ) → n ≤ 8 → x * 2 ^ 8 ≡ x * 2 ^ (8 - n) * 2 ^ n
+above-byte x n h =
+    let e : 8 ≡ (8 - n) + n = omega arith in
+    ap (λ (k : ℕ). x * 2 ^ k) e ∙ ap (λ (y : ℕ). x * y) (pow-add 2 (8 - n) n) ∙ sym (mul-assoc x (2 ^ (8 - n)) (2 ^ n))
+
+-- and so from a word in whose lowest byte they stand
+mark-told :
+    (us : List Bool) {fs : List (ℕ × ℕ)} {w : ℕ} → Laid ((8, marksOf us) ∷ fs) w → (k : ℕ)
+    → (ltb k (length us) && leb (length us) 8) ≡ true → bits k 1 w ≡ bitOf (getD us k true)
+mark-told us {fs} {w} h k e =
+    let q = and-both (ltb k (length us)) (leb (length us) 8) e in
+    ap (bits k 1) (h .is ∙ ap (λ (x : ℕ). x + marksOf us) (above-byte (packed fs) (length us) (leb-true (length us) 8 (q .1))))
+    ∙ mark-read us (packed fs * 2 ^ (8 - length us)) k (ltb-true k (length us) (q .0))
 
 -- ---- settings
 
@@ -142,123 +203,145 @@ picked true x y e = ap (λ (m : ℕ). cond (eqb m 1) x y) e
 picked false x y e = ap (λ (m : ℕ). cond (eqb m 1) x y) e
 
 -- a setting is read back where its mark and its value are
-module _ (w : List ℕ) where
+module _ (w : List ℕ) (layer : ℕ) where
   setting8-read :
-      (s : Setting8) (bit k from : ℕ) → bits bit 1 (word w 0) ≡ mark (of8 s) .1
-      → bits from 8 (word w k) ≡ valueOr 0 (of8 s) → setting8In w bit k from ≡ s
+      (s : Setting8) (bit from : ℕ) → bits bit 1 (word w layer) ≡ bitOf (isUnset (of8 s))
+      → bits from 8 (word w layer) ≡ valueOr 0 (of8 s) → setting8In w layer bit from ≡ s
   unfolding marked setting8In
-  setting8-read set8.Unset bit k from e f = picked true _ _ e
-  setting8-read (set8.Set v) bit k from e f = picked false _ _ e ∙ ap set8.Set f
+  setting8-read set8.Unset bit from e f = picked true _ _ e
+  setting8-read (set8.Set v) bit from e f = picked false _ _ e ∙ ap set8.Set f
 
   setting16-read :
-      (s : Setting16) (bit k from : ℕ) → bits bit 1 (word w 0) ≡ mark (of16 s) .1
-      → bits from 16 (word w k) ≡ valueOr 0 (of16 s) → setting16In w bit k from ≡ s
+      (s : Setting16) (bit from : ℕ) → bits bit 1 (word w layer) ≡ bitOf (isUnset (of16 s))
+      → bits from 16 (word w layer) ≡ valueOr 0 (of16 s) → setting16In w layer bit from ≡ s
   unfolding marked setting16In
-  setting16-read set16.Unset bit k from e f = picked true _ _ e
-  setting16-read (set16.Set v) bit k from e f = picked false _ _ e ∙ ap set16.Set f
+  setting16-read set16.Unset bit from e f = picked true _ _ e
+  setting16-read (set16.Set v) bit from e f = picked false _ _ e ∙ ap set16.Set f
 
   setting32-read :
-      (s : Setting32) (bit k from : ℕ) → bits bit 1 (word w 0) ≡ mark (of32 s) .1
-      → bits from 32 (word w k) ≡ valueOr 0 (of32 s) → setting32In w bit k from ≡ s
+      (s : Setting32) (bit from : ℕ) → bits bit 1 (word w layer) ≡ bitOf (isUnset (of32 s))
+      → bits from 32 (word w layer) ≡ valueOr 0 (of32 s) → setting32In w layer bit from ≡ s
   unfolding marked setting32In
-  setting32-read set32.Unset bit k from e f = picked true _ _ e
-  setting32-read (set32.Set v) bit k from e f = picked false _ _ e ∙ ap set32.Set f
+  setting32-read set32.Unset bit from e f = picked true _ _ e
+  setting32-read (set32.Set v) bit from e f = picked false _ _ e ∙ ap set32.Set f
 
   setting64-read :
-      (s : Setting64) (bit k : ℕ) → bits bit 1 (word w 0) ≡ mark (of64 s) .1
-      → word w k ≡ valueOr 0 (of64 s) → setting64In w bit k ≡ s
+      (s : Setting64) (bit k : ℕ) → bits bit 1 (word w layer) ≡ bitOf (isUnset (of64 s))
+      → word w k ≡ valueOr 0 (of64 s) → setting64In w layer bit k ≡ s
   unfolding marked setting64In
   setting64-read set64.Unset bit k e f = picked true _ _ e
   setting64-read (set64.Set v) bit k e f = picked false _ _ e ∙ ap set64.Set f
 
   kind-read :
-      (s : KindSetting) (bit : ℕ) → bits bit 1 (word w 0) ≡ mark (ofKind s) .1
-      → bits 24 8 (word w 0) ≡ kindOr s → kindSettingIn w bit ≡ s
+      (s : KindSetting) (bit from : ℕ) → bits bit 1 (word w layer) ≡ bitOf (isUnset (ofKind s))
+      → bits from 8 (word w layer) ≡ kindOr s → kindSettingIn w layer bit from ≡ s
   unfolding marked kindSettingIn
-  kind-read setKind.Unset bit e f = picked true _ _ e
-  kind-read (setKind.Set k) bit e f = picked false _ _ e ∙ ap setKind.Set (ap kindFrom f ∙ kind-code-read k)
+  kind-read setKind.Unset bit from e f = picked true _ _ e
+  kind-read (setKind.Set k) bit from e f = picked false _ _ e ∙ ap setKind.Set (ap kindFrom f ∙ kind-code-read k)
 
   range-read :
-      (s : RangeSetting) (bit from : ℕ) → bits bit 1 (word w 0) ≡ mark (ofRange s) .1
-      → bits from 16 (word w 5) ≡ rangeOr s .low → bits (from + 16) 16 (word w 5) ≡ rangeOr s .high
-      → rangeIn w bit from ≡ s
+      (s : RangeSetting) (bit k from : ℕ) → bits bit 1 (word w layer) ≡ bitOf (isUnset (ofRange s))
+      → bits from 16 (word w k) ≡ rangeOr s .low → bits (from + 16) 16 (word w k) ≡ rangeOr s .high
+      → rangeIn w layer bit k from ≡ s
   unfolding marked rangeIn
-  range-read setRange.Unset bit from e f g = picked true _ _ e
-  range-read (setRange.Set v) bit from e f g = picked false _ _ e ∙ (λ i. setRange.Set (record { low = f i; high = g i }))
+  range-read setRange.Unset bit k from e f g = picked true _ _ e
+  range-read (setRange.Set v) bit k from e f g =
+      picked false _ _ e ∙ (λ i. setRange.Set (record { low = f i; high = g i }))
 
   prefix-read :
-      (s : PrefixSetting) (bit at from : ℕ) → bits bit 1 (word w 0) ≡ mark (ofPrefix s) .1
-      → bits at 32 (word w 4) ≡ prefixOr s .address → bits from 8 (word w 3) ≡ prefixOr s .length
-      → prefixIn w bit at from ≡ s
+      (s : PrefixSetting) (bit from k at : ℕ) → bits bit 1 (word w layer) ≡ bitOf (isUnset (ofPrefix s))
+      → bits from 8 (word w layer) ≡ prefixOr s .length → bits at 32 (word w k) ≡ prefixOr s .address
+      → prefixIn w layer bit from k at ≡ s
   unfolding marked prefixIn
-  prefix-read setPrefix.Unset bit at from e f g = picked true _ _ e
-  prefix-read (setPrefix.Set v) bit at from e f g =
-      picked false _ _ e ∙ (λ i. setPrefix.Set (record { address = f i; length = g i }))
+  prefix-read setPrefix.Unset bit from k at e f g = picked true _ _ e
+  prefix-read (setPrefix.Set v) bit from k at e f g =
+      picked false _ _ e ∙ (λ i. setPrefix.Set (record { address = g i; length = f i }))
 
 -- ---- rules
 
 -- words that hold what a rule's row holds
 pub record Held (r : Rule) (w : List ℕ) : Type 0 where
-  pub head : Laid (headFields r) 0 (word w 0)
-  pub destination : word w 1 ≡ valueOr 0 (of64 (r .link .destination))
-  pub source : word w 2 ≡ valueOr 0 (of64 (r .link .source))
-  pub link : Laid (linkFields (r .link) (r .ipv4)) 0 (word w 3)
-  pub address : Laid (addressFields (r .ipv4)) 0 (word w 4)
-  pub port : Laid (portFields (r .transport)) 0 (word w 5)
-  pub someip : Laid (someipFields (r .someip) (r .tracking)) 0 (word w 6)
-  pub limit : Laid (limitFields (r .rate) (r .tracking)) 0 (word w 7)
+  pub rule : Laid (ruleFields r) (word w ruleWord)
+  pub link : Laid (linkFields (r .link)) (word w linkWord)
+  pub destination : word w destinationWord ≡ valueOr 0 (of64 (r .link .destination))
+  pub source : word w sourceWord ≡ valueOr 0 (of64 (r .link .source))
+  pub ip : Laid (ipFields (r .ipv4)) (word w ipWord)
+  pub address : Laid (addressFields (r .ipv4)) (word w addressWord)
+  pub transport : Laid (transportFields (r .transport)) (word w transportWord)
+  pub port : Laid (portFields (r .transport)) (word w portWord)
+  pub someip : Laid (someipFields (r .someip)) (word w someipWord)
+  pub rate : Laid (rateFields (r .rate)) (word w rateWord)
+  pub tracking : Laid (trackingFields (r .tracking)) (word w trackingWord)
 
 -- each layer is read back
 module _ (r : Rule) (w : List ℕ) (h : Held r w) where
   link-read : linkIn w ≡ r .link
-  link-read = λ i. record {
-    destination = setting64-read w (r .link .destination) 32 1 (told (h .head) 3) (h .destination) i;
-    source = setting64-read w (r .link .source) 33 2 (told (h .head) 4) (h .source) i;
-    vlan = setting16-read w (r .link .vlan) 34 3 0 (told (h .head) 5) (told (h .link) 0) i;
-    priority = setting8-read w (r .link .priority) 35 3 16 (told (h .head) 6) (told (h .link) 1) i;
-    ether = setting16-read w (r .link .ether) 36 3 24 (told (h .head) 7) (told (h .link) 2) i;
-  }
+  link-read =
+      let s = r .link in
+      let m = mark-told (linkUnset s) (h .link) in
+      λ i. record {
+        destination = setting64-read w linkWord (s .destination) 0 destinationWord (m 0 refl) (h .destination) i;
+        source = setting64-read w linkWord (s .source) 1 sourceWord (m 1 refl) (h .source) i;
+        vlan = setting16-read w linkWord (s .vlan) 2 8 (m 2 refl) (told (h .link) 1) i;
+        priority = setting8-read w linkWord (s .priority) 3 24 (m 3 refl) (told (h .link) 2) i;
+        ether = setting16-read w linkWord (s .ether) 4 32 (m 4 refl) (told (h .link) 3) i;
+      }
 
   ipv4-read : ipv4In w ≡ r .ipv4
-  ipv4-read = λ i. record {
-    source = prefix-read w (r .ipv4 .source) 37 0 40 (told (h .head) 8) (told (h .address) 0) (told (h .link) 3) i;
-    destination = prefix-read w (r .ipv4 .destination) 38 32 48 (told (h .head) 9) (told (h .address) 1) (told (h .link) 4) i;
-    protocol = setting8-read w (r .ipv4 .protocol) 39 3 56 (told (h .head) 10) (told (h .link) 5) i;
-  }
+  ipv4-read =
+      let s = r .ipv4 in
+      let m = mark-told (ipv4Unset s) (h .ip) in
+      λ i. record {
+        source = prefix-read w ipWord (s .source) 0 8 addressWord 0 (m 0 refl) (told (h .ip) 1) (told (h .address) 0) i;
+        destination = prefix-read w ipWord (s .destination) 1 16 addressWord 32 (m 1 refl) (told (h .ip) 2) (told (h .address) 1) i;
+        protocol = setting8-read w ipWord (s .protocol) 2 24 (m 2 refl) (told (h .ip) 3) i;
+      }
 
   transport-read : transportIn w ≡ r .transport
-  transport-read = λ i. record {
-    kind = kind-read w (r .transport .kind) 40 (told (h .head) 11) (told (h .head) 2) i;
-    source = range-read w (r .transport .source) 41 0 (told (h .head) 12) (told (h .port) 0) (told (h .port) 1) i;
-    destination = range-read w (r .transport .destination) 42 32 (told (h .head) 13) (told (h .port) 2) (told (h .port) 3) i;
-  }
+  transport-read =
+      let s = r .transport in
+      let m = mark-told (transportUnset s) (h .transport) in
+      λ i. record {
+        kind = kind-read w transportWord (s .kind) 0 8 (m 0 refl) (told (h .transport) 1) i;
+        source = range-read w transportWord (s .source) 1 portWord 0 (m 1 refl) (told (h .port) 0) (told (h .port) 1) i;
+        destination = range-read w transportWord (s .destination) 2 portWord 32 (m 2 refl) (told (h .port) 2) (told (h .port) 3) i;
+      }
 
   someip-read : someipIn w ≡ r .someip
-  someip-read = λ i. record {
-    service = setting16-read w (r .someip .service) 43 6 0 (told (h .head) 14) (told (h .someip) 0) i;
-    method = setting16-read w (r .someip .method) 44 6 16 (told (h .head) 15) (told (h .someip) 1) i;
-    version = setting8-read w (r .someip .version) 45 6 32 (told (h .head) 16) (told (h .someip) 2) i;
-    kind = setting8-read w (r .someip .kind) 46 6 40 (told (h .head) 17) (told (h .someip) 3) i;
-    code = setting8-read w (r .someip .code) 47 6 48 (told (h .head) 18) (told (h .someip) 4) i;
-  }
+  someip-read =
+      let s = r .someip in
+      let m = mark-told (someipUnset s) (h .someip) in
+      λ i. record {
+        service = setting16-read w someipWord (s .service) 0 8 (m 0 refl) (told (h .someip) 1) i;
+        method = setting16-read w someipWord (s .method) 1 24 (m 1 refl) (told (h .someip) 2) i;
+        version = setting8-read w someipWord (s .version) 2 40 (m 2 refl) (told (h .someip) 3) i;
+        kind = setting8-read w someipWord (s .kind) 3 48 (m 3 refl) (told (h .someip) 4) i;
+        code = setting8-read w someipWord (s .code) 4 56 (m 4 refl) (told (h .someip) 5) i;
+      }
 
   rate-read : rateIn w ≡ r .rate
-  rate-read = λ i. record {
-    size = setting16-read w (r .rate .size) 48 7 0 (told (h .head) 19) (told (h .limit) 0) i;
-    refill = setting16-read w (r .rate .refill) 49 7 16 (told (h .head) 20) (told (h .limit) 1) i;
-  }
+  rate-read =
+      let s = r .rate in
+      let m = mark-told (rateUnset s) (h .rate) in
+      λ i. record {
+        size = setting16-read w rateWord (s .size) 0 8 (m 0 refl) (told (h .rate) 1) i;
+        refill = setting16-read w rateWord (s .refill) 1 24 (m 1 refl) (told (h .rate) 2) i;
+      }
 
   tracking-read : trackingIn w ≡ r .tracking
-  tracking-read = λ i. record {
-    places = setting8-read w (r .tracking .places) 50 6 56 (told (h .head) 21) (told (h .someip) 5) i;
-    limit = setting32-read w (r .tracking .limit) 51 7 32 (told (h .head) 22) (told (h .limit) 2) i;
-  }
+  tracking-read =
+      let s = r .tracking in
+      let m = mark-told (trackingUnset s) (h .tracking) in
+      λ i. record {
+        places = setting8-read w trackingWord (s .places) 0 8 (m 0 refl) (told (h .tracking) 1) i;
+        limit = setting32-read w trackingWord (s .limit) 1 16 (m 1 refl) (told (h .tracking) 2) i;
+      }
 
   -- and the whole rule
   rule-read : ruleIn w ≡ r
   rule-read = λ i. record {
-    id = told (h .head) 0 i;
-    action = (ap actionFrom (told (h .head) 1) ∙ action-read (r .action)) i;
+    id = told (h .rule) 0 i;
+    action = (ap actionFrom (told (h .rule) 1) ∙ action-read (r .action)) i;
     link = link-read i;
     ipv4 = ipv4-read i;
     transport = transport-read i;
@@ -267,13 +350,21 @@ module _ (r : Rule) (w : List ℕ) (h : Held r w) where
     tracking = tracking-read i;
   }
 
--- and the eight words are the very ones
+-- the words of a row, those that are not named being zero
+abbrev row : ℕ → ℕ → ℕ → ℕ → ℕ → ℕ → ℕ → ℕ → ℕ → ℕ → ℕ → List ℕ
+row w₀ w₁ w₂ w₃ w₄ w₅ w₁₀ w₁₁ w₁₂ w₁₃ w₁₄ =
+    w₀ ∷ w₁ ∷ w₂ ∷ w₃ ∷ w₄ ∷ w₅ ∷ copies 4 0 ++ (w₁₀ ∷ w₁₁ ∷ w₁₂ ∷ w₁₃ ∷ w₁₄ ∷ copies 9 0)
+
+-- and they are the very ones
 pub rule-laid :
-    (r : Rule) {w₀ w₁ w₂ w₃ w₄ w₅ w₆ w₇ : ℕ} → let w = w₀ ∷ w₁ ∷ w₂ ∷ w₃ ∷ w₄ ∷ w₅ ∷ w₆ ∷ w₇ ∷ [] in Held r w → LaidAs ruleWords ruleIn r w
+    (r : Rule) {w₀ w₁ w₂ w₃ w₄ w₅ w₁₀ w₁₁ w₁₂ w₁₃ w₁₄ : ℕ}
+    → let w = row w₀ w₁ w₂ w₃ w₄ w₅ w₁₀ w₁₁ w₁₂ w₁₃ w₁₄ in Held r w → LaidAs ruleWords ruleIn r w
 unfolding ruleWords
 rule-laid r h = record {
   exact =
-      λ i. h .head .is i ∷ h .destination i ∷ h .source i ∷ h .link .is i ∷ h .address .is i ∷ h .port .is i ∷ h .someip .is i ∷ h .limit .is i ∷ [];
+      λ i.
+      row (h .rule .is i) (h .link .is i) (h .destination i) (h .source i) (h .ip .is i) (h .address .is i)
+      (h .transport .is i) (h .port .is i) (h .someip .is i) (h .rate .is i) (h .tracking .is i);
   back = rule-read r _ h;
 }
 
@@ -292,18 +383,19 @@ rows-next {f} {g} x l v k {row} h m e r =
 
 -- the row of the counts between those of the rules and of the states
 pub table-laid :
-    (t : Table) (w : List (List ℕ)) → length w ≡ 73 → LaidAs (map ruleWords) (map ruleIn) (t .rules) (take 64 w)
-    → LaidAs (map stateWords) (map stateIn) (t .states) (drop 65 w) → LaidAs tableWords tableIn t (set w 64 (countWords t))
+    (t : Table) (w : List (List ℕ)) {row : List ℕ} → length w ≡ tableRows → row ≡ countWords (t .rulecount) (t .statecount)
+    → LaidAs (map ruleWords) (map ruleIn) (t .rules) (take mostRules w)
+    → LaidAs (map stateWords) (map stateIn) (t .states) (drop stateRow w) → LaidAs tableWords tableIn t (set w countsRow row)
 unfolding countWords tableWords
-table-laid t w h r s = record {
-  exact = rw (set-split w 64 (countWords t) (omega arith), r .exact, s .exact);
+table-laid t w {row} h e r s = record {
+  exact = rw (set-split w countsRow row (omega arith), e, r .exact, s .exact);
   back = λ i. record {
-    rulecount = ap (λ (x : List ℕ). word x 0) counts i;
-    rules = (ap (map ruleIn) (take-set-le 64 w 64 (countWords t) (omega arith)) ∙ r .back) i;
-    statecount = ap (λ (x : List ℕ). word x 1) counts i;
-    states = (ap (map stateIn) (drop-set-lt 65 w 64 (countWords t) (omega arith)) ∙ s .back) i;
+    rulecount = ap (λ (x : List ℕ). word x ruleCountWord) counts i;
+    rules = (ap (map ruleIn) (take-set-le mostRules w countsRow row (omega arith)) ∙ r .back) i;
+    statecount = ap (λ (x : List ℕ). word x stateCountWord) counts i;
+    states = (ap (map stateIn) (drop-set-lt stateRow w countsRow row (omega arith)) ∙ s .back) i;
   };
 }
   where
-    counts : getD (set w 64 (countWords t)) 64 [] ≡ countWords t
-    counts = getD-set-same w 64 (countWords t) [] (omega arith)
+    counts : getD (set w countsRow row) countsRow [] ≡ countWords (t .rulecount) (t .statecount)
+    counts = getD-set-same w countsRow row [] (omega arith) ∙ e

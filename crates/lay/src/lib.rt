@@ -4,30 +4,33 @@ ghost use mathlib.Core.List.{map};
 ghost use Prim.Native.Nat.{_+_, _*_, _^_, _<_};
 ghost use lib.ListN.{length, drop};
 ghost use Rattle.table.specs.Settings.{of8, of16, of32, of64};
-ghost use Rattle.table.specs.Words.{actionCode, kindCode, ruleIn, stateIn, tableIn};
-ghost use Rattle.lay.specs.Fields.{Laid, LaidAs, valueOr, bitOf, kindOr, rangeOr, prefixOr};
-ghost use Rattle.lay.specs.Fields.{linkMarks, ipv4Marks, transportMarks, someipMarks, limitMarks};
-ghost use Rattle.lay.specs.Fields.{headFields, linkFields, addressFields, portFields, someipFields, limitFields};
-ghost use Rattle.lay.specs.Fields.{ruleWords, stateWords, tableWords};
+ghost use Rattle.table.specs.Table.{mostRules, mostStates};
+ghost use Rattle.table.specs.Words.{stateRow, tableRows, actionCode, kindCode, ruleIn, stateIn, tableIn};
+ghost use Rattle.lay.specs.Fields.{Laid, LaidAs, valueOr, bitOf, marksOf, kindOr, rangeOr, prefixOr};
+ghost use Rattle.lay.specs.Fields.{linkUnset, ipv4Unset, transportUnset, someipUnset, rateUnset, trackingUnset};
+ghost use Rattle.lay.specs.Fields.{ruleFields, linkFields, ipFields, addressFields, transportFields, portFields};
+ghost use Rattle.lay.specs.Fields.{someipFields, rateFields, trackingFields};
+ghost use Rattle.lay.specs.Fields.{ruleWords, stateWords, countWords, tableWords};
 use table::settings::*;
 use table::words::*;
 use table::*;
 
 // The bit of a setting that is unset, or is not.
-fn bit(unset: bool) -> u64
+fn bit(unset: bool) -> u8
     ensures { λ r. ⌜ (r ≡ bitOf unset) × (r < 2) ⌝ }
 {
     if unset { 0 } else { 1 }
 }
 
-// A field with what stands above it.
-fn mark(unset: bool, above: u64) -> u64
-    requires { ⌜ above < 2 ^ 63 ⌝ }
+// A mark with those that stand above it.
+fn mark(unset: bool, above: u8) -> u8
+    requires { ⌜ above < 128 ⌝ }
     ensures { λ r. ⌜ (r ≡ above * 2 + bitOf unset) × (bitOf unset < 2) ⌝ }
 {
     above * 2 + bit(unset)
 }
 
+// A field with what stands above it.
 fn field8(v: u8, above: u64) -> u64
     requires { ⌜ above < 2 ^ 56 ⌝ }
     ensures { λ r. ⌜ (r ≡ above * 256 + v) × (v < 256) ⌝ }
@@ -138,124 +141,109 @@ fn kind_value(s: KindSetting) -> u64
     }
 }
 
-// The marks of each layer, below those of the layers after it.
-fn link_marks(s: LinkSettings, above: u64) -> u64
-    requires { ⌜ above < 32768 ⌝ }
-    ensures { λ r. ⌜ Laid (linkMarks s) above r × (r < 1048576) ⌝ }
+// The marks of each layer, the lowest byte of its head word.
+fn link_marks(s: LinkSettings) -> u8
+    ensures { λ r. ⌜ r ≡ marksOf (linkUnset s) ⌝ }
 {
     let destination = s.destination;
     let source = s.source;
     let vlan = s.vlan;
     let priority = s.priority;
     let ether = s.ether;
-    let m = mark(unset8(priority), mark(unset16(ether), above));
+    let m = mark(unset8(priority), mark(unset16(ether), 0));
     mark(
         unset64(destination),
         mark(unset64(source), mark(unset16(vlan), m)),
     )
 }
 
-fn ipv4_marks(s: Ipv4Settings, above: u64) -> u64
-    requires { ⌜ above < 4096 ⌝ }
-    ensures { λ r. ⌜ Laid (ipv4Marks s) above r × (r < 32768) ⌝ }
+fn ipv4_marks(s: Ipv4Settings) -> u8
+    ensures { λ r. ⌜ r ≡ marksOf (ipv4Unset s) ⌝ }
 {
     let source = s.source;
     let destination = s.destination;
     let protocol = s.protocol;
     mark(
         unset_prefix(source),
-        mark(unset_prefix(destination), mark(unset8(protocol), above)),
+        mark(unset_prefix(destination), mark(unset8(protocol), 0)),
     )
 }
 
-fn transport_marks(s: TransportSettings, above: u64) -> u64
-    requires { ⌜ above < 512 ⌝ }
-    ensures { λ r. ⌜ Laid (transportMarks s) above r × (r < 4096) ⌝ }
+fn transport_marks(s: TransportSettings) -> u8
+    ensures { λ r. ⌜ r ≡ marksOf (transportUnset s) ⌝ }
 {
     let kind = s.kind;
     let source = s.source;
     let destination = s.destination;
     mark(
         unset_kind(kind),
-        mark(unset_range(source), mark(unset_range(destination), above)),
+        mark(unset_range(source), mark(unset_range(destination), 0)),
     )
 }
 
-fn someip_marks(s: SomeipSettings, above: u64) -> u64
-    requires { ⌜ above < 16 ⌝ }
-    ensures { λ r. ⌜ Laid (someipMarks s) above r × (r < 512) ⌝ }
+fn someip_marks(s: SomeipSettings) -> u8
+    ensures { λ r. ⌜ r ≡ marksOf (someipUnset s) ⌝ }
 {
     let service = s.service;
     let method = s.method;
     let version = s.version;
     let kind = s.kind;
     let code = s.code;
-    let m = mark(unset8(kind), mark(unset8(code), above));
+    let m = mark(unset8(kind), mark(unset8(code), 0));
     mark(
         unset16(service),
         mark(unset16(method), mark(unset8(version), m)),
     )
 }
 
-fn limit_marks(s: RateSettings, m: TrackingSettings) -> u64
-    ensures { λ r. ⌜ Laid (limitMarks s m) 0 r × (r < 16) ⌝ }
+fn rate_marks(s: RateSettings) -> u8
+    ensures { λ r. ⌜ r ≡ marksOf (rateUnset s) ⌝ }
 {
     let size = s.size;
     let refill = s.refill;
-    let places = m.places;
-    let limit = m.limit;
-    mark(
-        unset16(size),
-        mark(
-            unset16(refill),
-            mark(unset8(places), mark(unset32(limit), 0)),
-        ),
-    )
+    mark(unset16(size), mark(unset16(refill), 0))
 }
 
-// The words of a row: 0, and 3 to 7; words 1 and 2 are the two MACs.
-fn head_word(r: Rule) -> u64
-    ensures { λ w. ⌜ Laid (headFields r) 0 w ⌝ }
+fn tracking_marks(s: TrackingSettings) -> u8
+    ensures { λ r. ⌜ r ≡ marksOf (trackingUnset s) ⌝ }
 {
-    let link = r.link;
-    let ipv4 = r.ipv4;
-    let transport = r.transport;
-    let someip = r.someip;
-    let rate = r.rate;
-    let tracking = r.tracking;
-    let action = r.action;
-    let kind = transport.kind;
-    let m = someip_marks(someip, limit_marks(rate, tracking));
-    let marks = link_marks(link, ipv4_marks(ipv4, transport_marks(transport, m)));
-    field16(
-        r.id,
-        field8(
-            action_code(action) as u8,
-            field8(kind_value(kind) as u8, marks),
-        ),
-    )
+    let places = s.places;
+    let limit = s.limit;
+    mark(unset8(places), mark(unset32(limit), 0))
 }
 
-fn link_word(s: LinkSettings, i: Ipv4Settings) -> u64
-    ensures { λ w. ⌜ Laid (linkFields s i) 0 w ⌝ }
+// The words of a row, but for the two MACs.
+fn rule_word(r: Rule) -> u64
+    ensures { λ w. ⌜ Laid (ruleFields r) w ⌝ }
+{
+    let action = r.action;
+    field16(r.id, field8(action_code(action) as u8, 0))
+}
+
+fn link_word(s: LinkSettings) -> u64
+    ensures { λ w. ⌜ Laid (linkFields s) w ⌝ }
 {
     let vlan = s.vlan;
     let priority = s.priority;
     let ether = s.ether;
-    let source = i.source;
-    let destination = i.destination;
-    let protocol = i.protocol;
+    let upper = field8(value8(priority), field16(value16(ether), 0));
+    field8(link_marks(s), field16(value16(vlan), upper))
+}
+
+fn ip_word(s: Ipv4Settings) -> u64
+    ensures { λ w. ⌜ Laid (ipFields s) w ⌝ }
+{
+    let source = s.source;
+    let destination = s.destination;
+    let protocol = s.protocol;
     let a = prefix_value(source);
     let b = prefix_value(destination);
-    let lengths = field8(a.length, field8(b.length, field8(value8(protocol), 0)));
-    field16(
-        value16(vlan),
-        field8(value8(priority), field16(value16(ether), lengths)),
-    )
+    let upper = field8(b.length, field8(value8(protocol), 0));
+    field8(ipv4_marks(s), field8(a.length, upper))
 }
 
 fn address_word(s: Ipv4Settings) -> u64
-    ensures { λ w. ⌜ Laid (addressFields s) 0 w ⌝ }
+    ensures { λ w. ⌜ Laid (addressFields s) w ⌝ }
 {
     let source = s.source;
     let destination = s.destination;
@@ -264,8 +252,15 @@ fn address_word(s: Ipv4Settings) -> u64
     field32(a.address, field32(b.address, 0))
 }
 
+fn transport_word(s: TransportSettings) -> u64
+    ensures { λ w. ⌜ Laid (transportFields s) w ⌝ }
+{
+    let kind = s.kind;
+    field8(transport_marks(s), field8(kind_value(kind) as u8, 0))
+}
+
 fn port_word(s: TransportSettings) -> u64
-    ensures { λ w. ⌜ Laid (portFields s) 0 w ⌝ }
+    ensures { λ w. ⌜ Laid (portFields s) w ⌝ }
 {
     let source = s.source;
     let destination = s.destination;
@@ -274,34 +269,43 @@ fn port_word(s: TransportSettings) -> u64
     field16(a.low, field16(a.high, field16(b.low, field16(b.high, 0))))
 }
 
-fn someip_word(s: SomeipSettings, m: TrackingSettings) -> u64
-    ensures { λ w. ⌜ Laid (someipFields s m) 0 w ⌝ }
+fn someip_word(s: SomeipSettings) -> u64
+    ensures { λ w. ⌜ Laid (someipFields s) w ⌝ }
 {
     let service = s.service;
     let method = s.method;
     let version = s.version;
     let kind = s.kind;
     let code = s.code;
-    let places = m.places;
     let upper = field8(
-        value8(kind),
-        field8(value8(code), field8(value8(places), 0)),
+        value8(version),
+        field8(value8(kind), field8(value8(code), 0)),
     );
-    field16(
-        value16(service),
-        field16(value16(method), field8(value8(version), upper)),
+    field8(
+        someip_marks(s),
+        field16(value16(service), field16(value16(method), upper)),
     )
 }
 
-fn limit_word(s: RateSettings, m: TrackingSettings) -> u64
-    ensures { λ w. ⌜ Laid (limitFields s m) 0 w ⌝ }
+fn rate_word(s: RateSettings) -> u64
+    ensures { λ w. ⌜ Laid (rateFields s) w ⌝ }
 {
     let size = s.size;
     let refill = s.refill;
-    let limit = m.limit;
-    field16(
-        value16(size),
-        field16(value16(refill), field32(value32(limit), 0)),
+    field8(
+        rate_marks(s),
+        field16(value16(size), field16(value16(refill), 0)),
+    )
+}
+
+fn tracking_word(s: TrackingSettings) -> u64
+    ensures { λ w. ⌜ Laid (trackingFields s) w ⌝ }
+{
+    let places = s.places;
+    let limit = s.limit;
+    field8(
+        tracking_marks(s),
+        field8(value8(places), field32(value32(limit), 0)),
     )
 }
 
@@ -316,37 +320,53 @@ pub(crate) fn rule(r: Rule) -> RuleWords
     let tracking = r.tracking;
     let destination = link.destination;
     let source = link.source;
-    let w0 = head_word(r);
-    let w1 = value64(destination);
-    let w2 = value64(source);
-    let w3 = link_word(link, ipv4);
-    let w4 = address_word(ipv4);
-    let w5 = port_word(transport);
-    let w6 = someip_word(someip, tracking);
-    let w7 = limit_word(rate, tracking);
-    [w0, w1, w2, w3, w4, w5, w6, w7]
+    let mut w = [0; ROW_WORDS];
+    w[RULE] = rule_word(r);
+    w[LINK] = link_word(link);
+    w[DESTINATION_MAC] = value64(destination);
+    w[SOURCE_MAC] = value64(source);
+    w[IP] = ip_word(ipv4);
+    w[ADDRESSES] = address_word(ipv4);
+    w[TRANSPORT] = transport_word(transport);
+    w[PORTS] = port_word(transport);
+    w[SOMEIP] = someip_word(someip);
+    w[RATE] = rate_word(rate);
+    w[TRACKING] = tracking_word(tracking);
+    w
 }
 
 pub(crate) fn state(s: State) -> RuleWords
     ensures { λ w. ⌜ LaidAs stateWords stateIn s w ⌝ }
 {
     let default = s.default;
-    [action_code(default), s.marks, 0, 0, 0, 0, 0, 0]
+    let mut row = [0; ROW_WORDS];
+    row[DEFAULT] = action_code(default);
+    row[MARKS] = s.marks;
+    row
+}
+
+fn counts(rules: usize, states: usize) -> RuleWords
+    ensures { λ w. ⌜ w ≡ countWords rules states ⌝ }
+{
+    let mut w = [0; ROW_WORDS];
+    w[RULE_COUNT] = rules as u64;
+    w[STATE_COUNT] = states as u64;
+    w
 }
 
 // A table by value has its number of rules and of states.
 fn full(t: Table)
-    ensures { λ r. ⌜ (length (t .rules) ≡ 64) × (length (t .states) ≡ 8) ⌝ }
+    ensures { λ r. ⌜ (length (t .rules) ≡ mostRules) × (length (t .states) ≡ mostStates) ⌝ }
 {}
 
 // The rows of the states.
 fn states(t: Table, w: &mut TableWords)
-    ensures { λ r. ⌜ LaidAs (map stateWords) (map stateIn) (t .states) (drop 65 (now (w .exit))) × (length (now (w .exit)) ≡ 73) ⌝ }
+    ensures { λ r. ⌜ LaidAs (map stateWords) (map stateIn) (t .states) (drop stateRow (now (w .exit))) × (length (now (w .exit)) ≡ tableRows) ⌝ }
 {
     full(t);
-    rows(*w);
+    tell_table(*w);
     let mut k = 0;
-    while k < 8 {
+    while k < STATES {
         let s = t.states[k];
         w[STATE + k] = state(s);
         k += 1;
@@ -359,10 +379,10 @@ pub fn table(t: Table, w: &mut TableWords)
     full(t);
     states(t, w);
     let mut i = 0;
-    while i < 64 {
+    while i < RULES {
         let r = t.rules[i];
         w[i] = rule(r);
         i += 1;
     }
-    w[COUNTS] = [t.rulecount as u64, t.statecount as u64, 0, 0, 0, 0, 0, 0];
+    w[COUNTS] = counts(t.rulecount, t.statecount);
 }

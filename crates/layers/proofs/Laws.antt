@@ -10,18 +10,24 @@ use lib.Dec.{ltb}
 use borrow.Author.Tests.{ltb-false, leb-true}
 use Rattle.numbers.specs.Bytes.{byte}
 use Rattle.numbers.proofs.Lists.{cond-both, every-at}
-use Rattle.layers.specs.Layers.{
-  tagged,
-  tagOf,
-  linkOf,
-  words,
+use Rattle.layers.specs.Link.{linkBytes, taggedBytes, tagged, tagOf, linkOf}
+use Rattle.layers.specs.Ip.{
+  ipv4Bytes,
+  leastWords,
+  headerWords,
   headerLength,
   totalLength,
   ipv4Tests,
   ipv4Here,
   packetAt,
   ipOf,
+}
+use Rattle.layers.specs.Transport.{
+  tcpBytes,
+  leastOffset,
+  udpBytes,
   unfragmented,
+  dataOffset,
   tcpTests,
   tcpHere,
   udpTests,
@@ -30,17 +36,9 @@ use Rattle.layers.specs.Layers.{
   datagramAt,
   transportAt,
   transportOf,
-  someipTests,
-  someipHere,
-  messageAt,
-  someipAt,
-  someipOf,
-  layersOf,
-  tooShort,
-  tooLong,
-  refusalNumber,
-  shownOf,
 }
+use Rattle.layers.specs.Someip.{someipBytes, someipTests, someipHere, messageAt, someipAt, someipOf}
+use Rattle.layers.specs.Layers.{least, most, layersOf, tooShort, tooLong, refusalNumber, shownOf}
 use Rattle.layers.specs.Inside.{
   TagInside,
   PacketInside,
@@ -75,24 +73,24 @@ short-parts true b c e = absurd (true≢false e)
 short-parts false true c e = (refl, λ q. e)
 short-parts false false c e = (refl, λ q. absurd (false≢true q))
 
-pub short-fits : (s : List ℕ) → tooShort s ≡ false → (14 ≤ length s) × (tagged s ≡ true → 18 ≤ length s)
+pub short-fits : (s : List ℕ) → tooShort s ≡ false → (linkBytes ≤ length s) × (tagged s ≡ true → taggedBytes ≤ length s)
 unfolding tooShort
 short-fits s e =
-    let h = short-parts (ltb (length s) 14) (tagged s) (ltb (length s) 18) e in
+    let h = short-parts (ltb (length s) least) (tagged s) (ltb (length s) taggedBytes) e in
     (ltb-false _ _ (h .0), λ q. ltb-false _ _ (h .1 q))
 
 pub record Ipv4Fits (s : List ℕ) (at : ℕ) : Type 0 where
-  pub rest : at + 20 ≤ length s
+  pub rest : at + ipv4Bytes ≤ length s
   pub header : headerLength s at ≤ totalLength s at
-  pub words : 5 ≤ words s at
+  pub words : leastWords ≤ headerWords s at
   pub total : at + totalLength s at ≤ length s
 
 pub ipv4-fits : (s : List ℕ) (ether at : ℕ) → ipv4Here s ether at ≡ true → Ipv4Fits s at
 unfolding ipv4Here ipv4Tests
 ipv4-fits s ether at e =
     let ts = ipv4Tests s ether at in
-    let h : 20 ≤ length s - at = leb-true _ _ (every-at ts 1 e) in
-    let w : 5 ≤ byte s at % 16 = leb-true _ _ (every-at ts 3 e) in
+    let h : ipv4Bytes ≤ length s - at = leb-true _ _ (every-at ts 1 e) in
+    let w : leastWords ≤ headerWords s at = leb-true _ _ (every-at ts 3 e) in
     let l : headerLength s at ≤ totalLength s at = leb-true _ _ (every-at ts 4 e) in
     let t : totalLength s at ≤ length s - at = leb-true _ _ (every-at ts 5 e) in
     record { rest = omega arith; header = l; words = w; total = omega arith }
@@ -100,21 +98,21 @@ ipv4-fits s ether at e =
 -- what packet_at asks
 pub ipv4-room :
     (s : List ℕ) (ether at : ℕ) → ipv4Here s ether at ≡ true
-    → (at + 20 ≤ length s) × (headerLength s at ≤ totalLength s at)
+    → (at + ipv4Bytes ≤ length s) × (headerLength s at ≤ totalLength s at)
 ipv4-room s ether at e = let f = ipv4-fits s ether at e in (f .rest, f .header)
 
 module _ (s : List ℕ) (protocol at len : ℕ) where
-  pub tcp-fits : tcpHere s protocol at len ≡ true → (20 ≤ len) × ((5 ≤ byte s (at + 12) / 16) × (4 * (byte s (at + 12) / 16) ≤ len))
+  pub tcp-fits : tcpHere s protocol at len ≡ true → (tcpBytes ≤ len) × ((leastOffset ≤ dataOffset s at) × (4 * dataOffset s at ≤ len))
   unfolding tcpHere tcpTests
   tcp-fits e =
       let ts = tcpTests s protocol at len in
       (leb-true _ _ (every-at ts 1 e), (leb-true _ _ (every-at ts 2 e), leb-true _ _ (every-at ts 3 e)))
 
-  pub udp-fits : udpHere s protocol at len ≡ true → 8 ≤ len
+  pub udp-fits : udpHere s protocol at len ≡ true → udpBytes ≤ len
   unfolding udpHere udpTests
   udp-fits e = leb-true _ _ (every-at (udpTests s protocol at len) 1 e)
 
-pub someip-fits : (s : List ℕ) (at len : ℕ) → someipHere s at len ≡ true → 16 ≤ len
+pub someip-fits : (s : List ℕ) (at len : ℕ) → someipHere s at len ≡ true → someipBytes ≤ len
 unfolding someipHere someipTests
 someip-fits s at len e = leb-true _ _ (every-at (someipTests s at len) 0 e)
 
@@ -179,16 +177,16 @@ over s m (transport.Udp u) q = (u, refl)
 
 -- ---- what an answer that shows the layers says
 
-pub shows-is : (s : List ℕ) (l : Layers) → shownOf s ≡ shown.Shows l → (tooShort s ≡ false) × (length s ≤ 1518) × (layersOf s ≡ l)
+pub shows-is : (s : List ℕ) (l : Layers) → shownOf s ≡ shown.Shows l → (tooShort s ≡ false) × (length s ≤ most) × (layersOf s ≡ l)
 unfolding shownOf
 shows-is s =
     let P : Shown → Type 0 =
-    λ (r : Shown). (l : Layers) → r ≡ shown.Shows l → (tooShort s ≡ false) × (length s ≤ 1518) × (layersOf s ≡ l) in
+    λ (r : Shown). (l : Layers) → r ≡ shown.Shows l → (tooShort s ≡ false) × (length s ≤ most) × (layersOf s ≡ l) in
     cond-both P (tooShort s) _ _
     (λ h l q. let z : _≡_ {A = ℕ} 0 1 = cc in absurd (omega arith))
     (λ h. cond-both P (tooLong s) _ _
     (λ k l q. let z : _≡_ {A = ℕ} 0 1 = cc in absurd (omega arith))
-    (λ k l q. (h, ltb-false 1518 (length s) k, cc)))
+    (λ k l q. (h, ltb-false most (length s) k, cc)))
 
 -- each layer is read in what the one below it leaves
 module _ (s : List ℕ) (l : Layers) (e : shownOf s ≡ shown.Shows l) where

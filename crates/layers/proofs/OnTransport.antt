@@ -1,14 +1,24 @@
--- Transport and SOME/IP: each test of their definitions, as a law that the proofs cite by what a branch knows.
+-- Transport: each test of its definition, as a law that the proofs cite by what a branch knows.
 -- Assumes nothing.
-use Prim.Native.Nat.{ℕ, _+_, _-_, _*_, _/_, _%_, _≤_, _<_}
+use Prim.Native.Nat.{ℕ, _+_, _*_, _/_, _%_, _≤_, _<_}
 use mathlib.Core.Path.{_≡_}
 use mathlib.Core.List.{List}
 use mathlib.Core.Bool.{true, false, and-false, and-true}
 use lib.Dec.{eqb, leb}
 use borrow.Author.Tests.{eq-eqb, ne-eqb, le-leb, lt-leb}
-use Rattle.numbers.specs.Bytes.{byte, be16, be32}
-use Rattle.layers.specs.Layers.{
+use Rattle.numbers.specs.Bytes.{byte, be16}
+use Rattle.layers.specs.Transport.{
+  fragmentAt,
+  moreFragments,
+  offsetAt,
+  lengthAt,
+  tcpProtocol,
+  tcpBytes,
+  leastOffset,
+  udpProtocol,
+  udpBytes,
   unfragmented,
+  dataOffset,
   tcpTests,
   tcpHere,
   udpTests,
@@ -17,57 +27,52 @@ use Rattle.layers.specs.Layers.{
   datagramAt,
   transportAt,
   transportOf,
-  someipTests,
-  someipHere,
-  messageAt,
-  someipAt,
 }
 use Rattle.layers.specs.declared.Packet.{Packet}
 use Rattle.layers.specs.declared.Ip.the-variants as ip
 use Rattle.layers.specs.declared.Transport.the-variants as transport
-use Rattle.layers.specs.declared.Someip.the-variants as someip
 
 module _ (s : List ℕ) (at : ℕ) where
-  pub more-fragments : (be16 s (at + 6) / 8192 % 2 ≡ 0 → ⊥) → false ≡ unfragmented s at
+  pub more-fragments : (be16 s (at + fragmentAt) / moreFragments % 2 ≡ 0 → ⊥) → false ≡ unfragmented s at
   unfolding unfragmented
-  more-fragments h = simp (ne-eqb (be16 s (at + 6) / 8192 % 2) 0 h)
+  more-fragments h = simp (ne-eqb (be16 s (at + fragmentAt) / moreFragments % 2) 0 h)
 
-  pub by-offset : (n : ℕ) → n ≡ be16 s (at + 6) → n / 8192 % 2 ≡ 0 → eqb (n % 8192) 0 ≡ unfragmented s at
+  pub by-offset : (n : ℕ) → n ≡ be16 s (at + fragmentAt) → n / moreFragments % 2 ≡ 0 → eqb (n % moreFragments) 0 ≡ unfragmented s at
   unfolding unfragmented
-  by-offset n e h = simp (e, eq-eqb (be16 s (at + 6) / 8192 % 2) 0 (rw e at h))
+  by-offset n e h = simp (e, eq-eqb (be16 s (at + fragmentAt) / moreFragments % 2) 0 (rw e at h))
 
 module _ (s : List ℕ) (protocol at len : ℕ) where
-  pub not-tcp : (protocol ≡ 6 → ⊥) → false ≡ tcpHere s protocol at len
+  pub not-tcp : (protocol ≡ tcpProtocol → ⊥) → false ≡ tcpHere s protocol at len
   unfolding tcpHere tcpTests
-  not-tcp h = simp (ne-eqb protocol 6 h)
+  not-tcp h = simp (ne-eqb protocol tcpProtocol h)
 
-  pub tcp-short : len < 20 → false ≡ tcpHere s protocol at len
+  pub tcp-short : len < tcpBytes → false ≡ tcpHere s protocol at len
   unfolding tcpHere tcpTests
-  tcp-short h = simp (lt-leb 20 len h, and-false)
+  tcp-short h = simp (lt-leb tcpBytes len h, and-false)
 
-  pub tcp-few : byte s (at + 12) / 16 < 5 → false ≡ tcpHere s protocol at len
+  pub tcp-few : dataOffset s at < leastOffset → false ≡ tcpHere s protocol at len
   unfolding tcpHere tcpTests
-  tcp-few h = simp (lt-leb 5 (byte s (at + 12) / 16) h, and-false)
+  tcp-few h = simp (lt-leb leastOffset (dataOffset s at) h, and-false)
 
   pub tcp-by-offset :
-      (n : ℕ) → n ≡ byte s (at + 12) → protocol ≡ 6 → 20 ≤ len → 5 ≤ n / 16
+      (n : ℕ) → n ≡ byte s (at + offsetAt) → protocol ≡ tcpProtocol → tcpBytes ≤ len → leastOffset ≤ n / 16
       → leb (4 * (n / 16)) len ≡ tcpHere s protocol at len
   unfolding tcpHere tcpTests
   tcp-by-offset n e k l w =
-      simp (e, eq-eqb protocol 6 k, le-leb 20 len l, le-leb 5 (byte s (at + 12) / 16) (rw e at w), and-true)
+      simp (e, eq-eqb protocol tcpProtocol k, le-leb tcpBytes len l, le-leb leastOffset (dataOffset s at) (rw e at w), and-true)
 
-  pub not-udp : (protocol ≡ 17 → ⊥) → false ≡ udpHere s protocol at len
+  pub not-udp : (protocol ≡ udpProtocol → ⊥) → false ≡ udpHere s protocol at len
   unfolding udpHere udpTests
-  not-udp h = simp (ne-eqb protocol 17 h)
+  not-udp h = simp (ne-eqb protocol udpProtocol h)
 
-  pub udp-short : len < 8 → false ≡ udpHere s protocol at len
+  pub udp-short : len < udpBytes → false ≡ udpHere s protocol at len
   unfolding udpHere udpTests
-  udp-short h = simp (lt-leb 8 len h, and-false)
+  udp-short h = simp (lt-leb udpBytes len h, and-false)
 
   pub udp-by-length :
-      (n : ℕ) → n ≡ be16 s (at + 4) → protocol ≡ 17 → 8 ≤ len → eqb n len ≡ udpHere s protocol at len
+      (n : ℕ) → n ≡ be16 s (at + lengthAt) → protocol ≡ udpProtocol → udpBytes ≤ len → eqb n len ≡ udpHere s protocol at len
   unfolding udpHere udpTests
-  udp-by-length n e k l = simp (e, eq-eqb protocol 17 k, le-leb 8 len l, and-true)
+  udp-by-length n e k l = simp (e, eq-eqb protocol udpProtocol k, le-leb udpBytes len l, and-true)
 
   pub shows-tcp : tcpHere s protocol at len ≡ true → transport.Tcp (segmentAt s at) ≡ transportAt s protocol at len
   unfolding transportAt
@@ -95,25 +100,3 @@ module _ (s : List ℕ) (p : Packet) where
   pub fragment : unfragmented s (p .header) ≡ false → transport.Absent ≡ transportOf s (ip.V4 p)
   unfolding transportOf
   fragment f = simp f
-
-module _ (s : List ℕ) (at len : ℕ) where
-  pub someip-short : len < 16 → false ≡ someipHere s at len
-  unfolding someipHere someipTests
-  someip-short h = simp (lt-leb 16 len h)
-
-  pub someip-small : be32 s (at + 4) < 8 → false ≡ someipHere s at len
-  unfolding someipHere someipTests
-  someip-small h = simp (lt-leb 8 (be32 s (at + 4)) h, and-false)
-
-  pub someip-by-length :
-      (n : ℕ) → n ≡ be32 s (at + 4) → 16 ≤ len → 8 ≤ n → leb n (len - 8) ≡ someipHere s at len
-  unfolding someipHere someipTests
-  someip-by-length n e h l = simp (e, le-leb 16 len h, le-leb 8 (be32 s (at + 4)) (rw e at l), and-true)
-
-  pub someip-present : someipHere s at len ≡ true → someip.Present (messageAt s at) ≡ someipAt s at len
-  unfolding someipAt
-  someip-present e = simp e
-
-  pub someip-absent : someipHere s at len ≡ false → someip.Absent ≡ someipAt s at len
-  unfolding someipAt
-  someip-absent e = simp e

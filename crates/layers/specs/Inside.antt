@@ -4,6 +4,11 @@ use Prim.Native.Nat.{ℕ, _+_, _≤_, _<_}
 use mathlib.Core.Path.{_≡_}
 use mathlib.Core.List.{List}
 use lib.ListN.{length}
+use Rattle.layers.specs.Link.{low12}
+use Rattle.layers.specs.Ip.{ipv4Bytes}
+use Rattle.layers.specs.Transport.{tcpBytes, udpBytes}
+use Rattle.layers.specs.Someip.{someipBytes}
+use Rattle.layers.specs.Layers.{most}
 use Rattle.layers.specs.declared.Tag.{Tag}
 use Rattle.layers.specs.declared.Tag.the-variants as tag
 use Rattle.layers.specs.declared.Packet.{Packet}
@@ -21,39 +26,47 @@ use Rattle.layers.specs.declared.Layers.{Layers}
 -- a VLAN id has 12 bits
 abbrev pub TagInside : Tag → Type 0
 TagInside tag.Untagged = Unit {0}
-TagInside (tag.Tagged priority vlan) = vlan < 4096
+TagInside (tag.Tagged priority vlan) = vlan < low12
 
+-- a header of at least 20 bytes, the payload straight behind it
 pub record PacketInside (s : List ℕ) (p : Packet) : Type 0 where
-  pub words : 20 ≤ p .hlen
+  pub words : ipv4Bytes ≤ p .hlen
   pub joined : p .header + p .hlen ≡ p .payload
   pub payload : p .payload + p .plen ≤ length s
 
+-- IP, where it is present
 abbrev pub IpInside : List ℕ → Ip → Type 0
 IpInside s ip.Absent = Unit {0}
 IpInside s (ip.V4 p) = PacketInside s p
 
+-- a TCP header of at least 20 bytes
 pub record SegmentInside (s : List ℕ) (t : Segment) : Type 0 where
-  pub words : 20 ≤ t .hlen
+  pub words : tcpBytes ≤ t .hlen
   pub header : t .header + t .hlen ≤ length s
 
+-- a UDP header's 8 bytes, the payload straight behind them
 pub record DatagramInside (s : List ℕ) (u : Datagram) : Type 0 where
-  pub joined : u .header + 8 ≡ u .payload
+  pub joined : u .header + udpBytes ≡ u .payload
   pub payload : u .payload + u .plen ≤ length s
 
+-- the transport, where it is present
 abbrev pub TransportInside : List ℕ → Transport → Type 0
 TransportInside s transport.Absent = Unit {0}
 TransportInside s (transport.Tcp t) = SegmentInside s t
 TransportInside s (transport.Udp u) = DatagramInside s u
 
+-- a SOME/IP header's 16 bytes
 pub record MessageInside (s : List ℕ) (m : Message) : Type 0 where
-  pub header : m .header + 16 ≤ length s
+  pub header : m .header + someipBytes ≤ length s
 
+-- SOME/IP, where it is present
 abbrev pub SomeipInside : List ℕ → Someip → Type 0
 SomeipInside s someip.Absent = Unit {0}
 SomeipInside s (someip.Present m) = MessageInside s m
 
+-- all layers of a frame that is not too long
 pub record Inside (s : List ℕ) (l : Layers) : Type 0 where
-  pub size : length s ≤ 1518
+  pub size : length s ≤ most
   pub link : l .link .hlen ≤ length s
   pub tag : TagInside (l .link .tag)
   pub ip : IpInside s (l .ip)

@@ -1,2 +1,7 @@
+pub mod Link
+pub mod Ip
+pub mod Transport
+pub mod Someip
 pub mod Layers
 pub mod Inside
+pub mod Seen

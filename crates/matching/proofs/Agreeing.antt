@@ -1,10 +1,9 @@
 -- A layer that is present matches where every setting agrees, since an unset one always does.
 -- Assumes nothing.
-use Prim.Native.Nat.{ℕ, suc}
-use mathlib.Core.Path.{_≡_, refl, sym, ap, _∙_}
+use Prim.Native.Nat.{ℕ}
+use mathlib.Core.Path.{_≡_, refl, sym}
 use mathlib.Core.List.{List, [], _∷_}
-use mathlib.Core.Bool.{Bool, true, false, _||_, not, cond, or-false, and-true}
-use borrow.Author.Tests.{not-true, not-false}
+use mathlib.Core.Bool.{Bool, true, false, _||_, or-false, and-true}
 use lib.Dec.{eqb}
 use Rattle.numbers.specs.Lists.{every}
 use Rattle.numbers.proofs.Lists.{and-both, and-true-true}
@@ -138,10 +137,3 @@ someip-present r s x m e =
         ),
       ),
     ))
-
--- the layers are counted up to the first that does not match
-pub count-stops : {r a : Bool} (m : ℕ) → r ≡ a → not r ≡ true → 0 ≡ cond a (suc m) 0
-count-stops {r} m e h = ap (λ (x : Bool). cond x (suc m) 0) (sym (not-true r h) ∙ e)
-
-pub count-goes : {r a : Bool} {m n : ℕ} → r ≡ a → not r ≡ false → n ≡ m → suc n ≡ cond a (suc m) 0
-count-goes {r} {m = m} e h k = ap suc k ∙ ap (λ (x : Bool). cond x (suc m) 0) (sym (not-false r h) ∙ e)

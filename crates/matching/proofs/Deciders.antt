@@ -12,7 +12,7 @@ use Rattle.numbers.proofs.Lists.{and-both, every-at, first-le, first-holds, fir
 use Rattle.layers.specs.declared.Segment.{Segment}
 use Rattle.layers.specs.declared.Transport.{Transport}
 use Rattle.layers.specs.declared.Transport.the-variants as transport
-use Rattle.layers.specs.declared.Layers.{Layers}
+use Rattle.layers.specs.Seen.{Seen}
 use Rattle.table.specs.declared.Kind.the-variants as kind
 use Rattle.table.specs.declared.KindSetting.{KindSetting}
 use Rattle.table.specs.declared.KindSetting.the-variants as setKind
@@ -23,46 +23,46 @@ use Rattle.table.specs.Settings.{ofKind}
 use Rattle.table.specs.Table.{ruleAt, active, isTcp}
 use Rattle.matching.specs.Matching.{transportMatches, layerTests, ruleMatches, decides, deciderOf}
 
-module _ (t : Table) (state : ℕ) (s : List ℕ) (l : Layers) where
+module _ (t : Table) (state : ℕ) (x : Seen) where
   -- a rule that decides is active and matches, and no earlier one does
   abbrev pub Decides : ℕ → Type 0
   Decides d =
       (d < t .rulecount)
       × (active t state d ≡ true)
-      × (ruleMatches (ruleAt t d) s l ≡ true)
-      × ((j : ℕ) → j < d → decides t state s l j ≡ false)
+      × (ruleMatches (ruleAt t d) x ≡ true)
+      × ((j : ℕ) → j < d → decides t state x j ≡ false)
 
-  found : (i d : ℕ) → i ≡ d → i < t .rulecount → decides t state s l i ≡ true → ((j : ℕ) → j < i → decides t state s l j ≡ false) → Decides d
+  found : (i d : ℕ) → i ≡ d → i < t .rulecount → decides t state x i ≡ true → ((j : ℕ) → j < i → decides t state x j ≡ false) → Decides d
   unfolding decides
   found i d q m y z =
-      let k = and-both (active t state d) (ruleMatches (ruleAt t d) s l) (rw (← q) y) in
+      let k = and-both (active t state d) (ruleMatches (ruleAt t d) x) (rw (← q) y) in
       (omega arith, k .0, k .1, λ j n. z j (omega arith))
 
-  pub decider-is : (d : ℕ) → deciderOf t state s l ≡ d → d < 64 → Decides d
+  pub decider-is : (d : ℕ) → deciderOf t state x ≡ d → d < 64 → Decides d
   unfolding deciderOf
-  decider-is d e h = go (ltb (first (decides t state s l) (t .rulecount)) (t .rulecount)) refl e
+  decider-is d e h = go (ltb (first (decides t state x) (t .rulecount)) (t .rulecount)) refl e
     where
-      go : (b : Bool) → ltb (first (decides t state s l) (t .rulecount)) (t .rulecount) ≡ b → cond b (first (decides t state s l) (t .rulecount)) 64 ≡ d → Decides d
+      go : (b : Bool) → ltb (first (decides t state x) (t .rulecount)) (t .rulecount) ≡ b → cond b (first (decides t state x) (t .rulecount)) 64 ≡ d → Decides d
       go true p q =
-          let m = ltb-true (first (decides t state s l) (t .rulecount)) (t .rulecount) p in
-          found (first (decides t state s l) (t .rulecount)) d q m (first-holds (decides t state s l) (t .rulecount) m) (first-before (decides t state s l) (t .rulecount))
+          let m = ltb-true (first (decides t state x) (t .rulecount)) (t .rulecount) p in
+          found (first (decides t state x) (t .rulecount)) d q m (first-holds (decides t state x) (t .rulecount) m) (first-before (decides t state x) (t .rulecount))
       go false p q = absurd (omega arith)
 
   -- where the default decides, no rule does
-  pub decider-default : t .rulecount ≤ 64 → deciderOf t state s l ≡ 64 → (i : ℕ) → i < t .rulecount → decides t state s l i ≡ false
+  pub decider-default : t .rulecount ≤ 64 → deciderOf t state x ≡ 64 → (i : ℕ) → i < t .rulecount → decides t state x i ≡ false
   unfolding deciderOf
-  decider-default small e i h = go (ltb (first (decides t state s l) (t .rulecount)) (t .rulecount)) refl e
+  decider-default small e i h = go (ltb (first (decides t state x) (t .rulecount)) (t .rulecount)) refl e
     where
-      go : (b : Bool) → ltb (first (decides t state s l) (t .rulecount)) (t .rulecount) ≡ b → cond b (first (decides t state s l) (t .rulecount)) 64 ≡ 64 → decides t state s l i ≡ false
-      go true p q = absurd (omega (arith, ltb-true (first (decides t state s l) (t .rulecount)) (t .rulecount) p))
-      go false p q = first-before (decides t state s l) (t .rulecount) i (omega (arith, ltb-false (first (decides t state s l) (t .rulecount)) (t .rulecount) p))
+      go : (b : Bool) → ltb (first (decides t state x) (t .rulecount)) (t .rulecount) ≡ b → cond b (first (decides t state x) (t .rulecount)) 64 ≡ 64 → decides t state x i ≡ false
+      go true p q = absurd (omega (arith, ltb-true (first (decides t state x) (t .rulecount)) (t .rulecount) p))
+      go false p q = first-before (decides t state x) (t .rulecount) i (omega (arith, ltb-false (first (decides t state x) (t .rulecount)) (t .rulecount) p))
 
-  pub decider-small : t .rulecount ≤ 64 → deciderOf t state s l ≤ 64
+  pub decider-small : t .rulecount ≤ 64 → deciderOf t state x ≤ 64
   unfolding deciderOf
-  decider-small small = go (ltb (first (decides t state s l) (t .rulecount)) (t .rulecount))
+  decider-small small = go (ltb (first (decides t state x) (t .rulecount)) (t .rulecount))
     where
-      go : (b : Bool) → cond b (first (decides t state s l) (t .rulecount)) 64 ≤ 64
-      go true = omega (arith, first-le (decides t state s l) (t .rulecount))
+      go : (b : Bool) → cond b (first (decides t state x) (t .rulecount)) 64 ≤ 64
+      go true = omega (arith, first-le (decides t state x) (t .rulecount))
       go false = omega arith
 
 -- a transport that a rule of kind TCP matches is a segment
@@ -81,7 +81,7 @@ tcp-transport r (transport.Udp u) (setKind.Set kind.Unknown) e h m = absurd (fal
 tcp-transport r (transport.Udp u) (setKind.Set kind.Tcp) e h m = absurd (false≢true (rw e at m))
 
 pub matches-tcp :
-    (r : Rule) (s : List ℕ) (l : Layers) → ruleMatches r s l ≡ true → isTcp (ofKind (r .transport .kind)) ≡ true
-    → (g : Segment) × (l .transport ≡ transport.Tcp g)
+    (r : Rule) (x : Seen) → ruleMatches r x ≡ true → isTcp (ofKind (r .transport .kind)) ≡ true
+    → (g : Segment) × (x .layers .transport ≡ transport.Tcp g)
 unfolding ruleMatches layerTests
-matches-tcp r s l e h = tcp-transport (r .transport) (l .transport) (r .transport .kind) refl h (every-at (layerTests r s l) 2 e)
+matches-tcp r x e h = tcp-transport (r .transport) (x .layers .transport) (r .transport .kind) refl h (every-at (layerTests r x) 2 e)

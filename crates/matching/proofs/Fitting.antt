@@ -11,7 +11,7 @@ use borrow.Author.Tests.{eqb-true, eqb-false, eq-eqb, ne-eqb, ltb-true, ltb-fals
 use lib.Dec.{eqb, ltb}
 use Rattle.numbers.specs.Lists.{first}
 use Rattle.numbers.proofs.Lists.{cond-both, first-is, last-or-below}
-use Rattle.layers.specs.declared.Layers.{Layers}
+use Rattle.layers.specs.Seen.{Seen}
 use Rattle.table.specs.declared.Table.{Table}
 use Rattle.table.specs.Table.{ruleAt, active}
 use Rattle.matching.specs.Matching.{ruleMatches, decides, deciderOf}
@@ -112,129 +112,129 @@ fits f (suc n) = go (fits f n) (ltb (greatest f n) (f n)) refl
         let h : f n ≤ greatest f n = ltb-false (greatest f n) (f n) e in
         (q .0, rw (← add-one n, max-eq-left h) (fits-same f n (q .0) (greatest f n) (q .1) h))
 
-module _ (t : Table) (state : ℕ) (s : List ℕ) (l : Layers) where
+module _ (t : Table) (state : ℕ) (x : Seen) where
   -- the best fit, as the loop has it at its end
   pub best-fits :
-      (place most : ℕ) → (most ≡ 0 → ⊥) → Fits (scoreOf t state s l) (t .rulecount) place most
-      → _≡_ {A = Best} (record { place = place; layer = most - 1 }) (bestOf t state s l)
+      (place most : ℕ) → (most ≡ 0 → ⊥) → Fits (scoreOf t state x) (t .rulecount) place most
+      → _≡_ {A = Best} (record { place = place; layer = most - 1 }) (bestOf t state x)
   unfolding bestOf
   best-fits place most ne q =
       let h : 0 < most = omega (arith, ne) in
-      let p : first (λ i. eqb (scoreOf t state s l i) most) (t .rulecount) ≡ place =
-      first-is (λ i. eqb (scoreOf t state s l i) most) (t .rulecount) place (q .inside h) (eq-eqb (scoreOf t state s l place) most (q .held h))
-      (λ j k. ne-eqb (scoreOf t state s l j) most (λ e. absurd (omega (arith, q .earlier h j k, e)))) in
+      let p : first (λ i. eqb (scoreOf t state x i) most) (t .rulecount) ≡ place =
+      first-is (λ i. eqb (scoreOf t state x i) most) (t .rulecount) place (q .inside h) (eq-eqb (scoreOf t state x place) most (q .held h))
+      (λ j k. ne-eqb (scoreOf t state x j) most (λ e. absurd (omega (arith, q .earlier h j k, e)))) in
       rw (← q .top, ne-eqb most 0 ne, p)
 
   pub fits-none :
-      (place most : ℕ) → most ≡ 0 → Fits (scoreOf t state s l) (t .rulecount) place most
-      → _≡_ {A = Best} (record { place = 64; layer = 0 }) (bestOf t state s l)
+      (place most : ℕ) → most ≡ 0 → Fits (scoreOf t state x) (t .rulecount) place most
+      → _≡_ {A = Best} (record { place = 64; layer = 0 }) (bestOf t state x)
   unfolding bestOf
   fits-none place most z q = rw (← z, ← q .top) (rw z)
 
   -- the best fit is such a place
-  best-none : greatest (scoreOf t state s l) (t .rulecount) ≡ 0 → bestOf t state s l ≡ record { place = 64; layer = 0 }
+  best-none : greatest (scoreOf t state x) (t .rulecount) ≡ 0 → bestOf t state x ≡ record { place = 64; layer = 0 }
   unfolding bestOf
   best-none e = rw e
 
   best-some :
-      (greatest (scoreOf t state s l) (t .rulecount) ≡ 0 → ⊥)
+      (greatest (scoreOf t state x) (t .rulecount) ≡ 0 → ⊥)
       → (place : ℕ)
-      × Fits (scoreOf t state s l) (t .rulecount) place (greatest (scoreOf t state s l) (t .rulecount))
-      × (bestOf t state s l ≡ record { place = place; layer = greatest (scoreOf t state s l) (t .rulecount) - 1 })
+      × Fits (scoreOf t state x) (t .rulecount) place (greatest (scoreOf t state x) (t .rulecount))
+      × (bestOf t state x ≡ record { place = place; layer = greatest (scoreOf t state x) (t .rulecount) - 1 })
   best-some ne =
-      let q = fits (scoreOf t state s l) (t .rulecount) in
-      (q .0, q .1, sym (best-fits (q .0) (greatest (scoreOf t state s l) (t .rulecount)) ne (q .1)))
+      let q = fits (scoreOf t state x) (t .rulecount) in
+      (q .0, q .1, sym (best-fits (q .0) (greatest (scoreOf t state x) (t .rulecount)) ne (q .1)))
 
   -- what holds of both
   best-both :
       (P : Best → Type 0) → P (record { place = 64; layer = 0 })
-      → ((place most : ℕ) → 0 < most → Fits (scoreOf t state s l) (t .rulecount) place most → P (record { place = place; layer = most - 1 }))
-      → P (bestOf t state s l)
-  best-both P a b = go (eqb (greatest (scoreOf t state s l) (t .rulecount)) 0) refl
+      → ((place most : ℕ) → 0 < most → Fits (scoreOf t state x) (t .rulecount) place most → P (record { place = place; layer = most - 1 }))
+      → P (bestOf t state x)
+  best-both P a b = go (eqb (greatest (scoreOf t state x) (t .rulecount)) 0) refl
     where
-      go : (c : Bool) → eqb (greatest (scoreOf t state s l) (t .rulecount)) 0 ≡ c → P (bestOf t state s l)
-      go true e = subst P (sym (best-none (eqb-true (greatest (scoreOf t state s l) (t .rulecount)) 0 e))) a
+      go : (c : Bool) → eqb (greatest (scoreOf t state x) (t .rulecount)) 0 ≡ c → P (bestOf t state x)
+      go true e = subst P (sym (best-none (eqb-true (greatest (scoreOf t state x) (t .rulecount)) 0 e))) a
       go false e =
-          let ne = eqb-false (greatest (scoreOf t state s l) (t .rulecount)) 0 e in
+          let ne = eqb-false (greatest (scoreOf t state x) (t .rulecount)) 0 e in
           let q = best-some ne in
-          subst P (sym (q .2)) (b (q .0) (greatest (scoreOf t state s l) (t .rulecount)) (omega (arith, ne)) (q .1))
+          subst P (sym (q .2)) (b (q .0) (greatest (scoreOf t state x) (t .rulecount)) (omega (arith, ne)) (q .1))
 
-  pub score-small : (i : ℕ) → scoreOf t state s l i ≤ 5
+  pub score-small : (i : ℕ) → scoreOf t state x i ≤ 5
   unfolding scoreOf
-  score-small i = cond-both (λ (n : ℕ). n ≤ 5) (active t state i) _ _ (λ e. omega (arith, leading-small (ruleAt t i) s l)) (λ e. omega arith)
+  score-small i = cond-both (λ (n : ℕ). n ≤ 5) (active t state i) _ _ (λ e. omega (arith, leading-small (ruleAt t i) x)) (λ e. omega arith)
 
-  score-open : (i : ℕ) → decides t state s l i ≡ false → scoreOf t state s l i ≤ 4
+  score-open : (i : ℕ) → decides t state x i ≡ false → scoreOf t state x i ≤ 4
   unfolding scoreOf decides
   score-open i e =
-      cond-both (λ (n : ℕ). n ≤ 4) (active t state i) _ _ (λ f. omega (arith, leading-short (ruleAt t i) s l (rw f at e))) (λ f. omega arith)
+      cond-both (λ (n : ℕ). n ≤ 4) (active t state i) _ _ (λ f. omega (arith, leading-short (ruleAt t i) x (rw f at e))) (λ f. omega arith)
 
   -- a rule that matches has the greatest score there is
-  score-matches : (i : ℕ) → active t state i ≡ true → ruleMatches (ruleAt t i) s l ≡ true → scoreOf t state s l i ≡ 5
+  score-matches : (i : ℕ) → active t state i ≡ true → ruleMatches (ruleAt t i) x ≡ true → scoreOf t state x i ≡ 5
   unfolding scoreOf
-  score-matches i e h = rw (e, leading-full (ruleAt t i) s l h)
+  score-matches i e h = rw (e, leading-full (ruleAt t i) x h)
 
-  score-active : (i : ℕ) → 0 < scoreOf t state s l i → active t state i ≡ true
+  score-active : (i : ℕ) → 0 < scoreOf t state x i → active t state i ≡ true
   unfolding scoreOf
   score-active i = cond-both (λ (n : ℕ). 0 < n → active t state i ≡ true) (active t state i) _ _ (λ e h. e) (λ e h. absurd (omega arith))
 
-  pub best-place : t .rulecount ≤ 64 → bestOf t state s l .place ≤ 64
+  pub best-place : t .rulecount ≤ 64 → bestOf t state x .place ≤ 64
   best-place small = best-both (λ (b : Best). b .place ≤ 64) (omega arith) (λ place most h q. omega (arith, q .inside h))
 
-  pub best-layer : bestOf t state s l .layer ≤ 4
+  pub best-layer : bestOf t state x .layer ≤ 4
   best-layer = best-both (λ (b : Best). b .layer ≤ 4) (omega arith) (λ place most h q. omega (arith, q .held h, score-small place))
 
   -- where no rule decides, a layer of the best fit does not match
-  pub best-open : t .rulecount ≤ 64 → deciderOf t state s l ≡ 64 → bestOf t state s l .layer ≤ 3
+  pub best-open : t .rulecount ≤ 64 → deciderOf t state x ≡ 64 → bestOf t state x .layer ≤ 3
   best-open small e =
       best-both (λ (b : Best). b .layer ≤ 3) (omega arith)
-      (λ place most h q. omega (arith, q .held h, score-open place (decider-default t state s l small e place (q .inside h))))
+      (λ place most h q. omega (arith, q .held h, score-open place (decider-default t state x small e place (q .inside h))))
 
   -- a place that fits best has an active rule
-  pub best-active : bestOf t state s l .place < 64 → (bestOf t state s l .place < t .rulecount) × (active t state (bestOf t state s l .place) ≡ true)
+  pub best-active : bestOf t state x .place < 64 → (bestOf t state x .place < t .rulecount) × (active t state (bestOf t state x .place) ≡ true)
   best-active =
       best-both (λ (b : Best). b .place < 64 → (b .place < t .rulecount) × (active t state (b .place) ≡ true)) (λ k. absurd (omega arith))
       (λ place most h q k. (q .inside h, score-active place (omega (arith, q .held h))))
 
   -- the first place with the score of a rule that matches fits best: none is greater
   pub best-full :
-      (i : ℕ) → i < t .rulecount → scoreOf t state s l i ≡ 5 → ((j : ℕ) → j < i → scoreOf t state s l j < 5)
-      → _≡_ {A = Best} (record { place = i; layer = 4 }) (bestOf t state s l)
+      (i : ℕ) → i < t .rulecount → scoreOf t state x i ≡ 5 → ((j : ℕ) → j < i → scoreOf t state x j < 5)
+      → _≡_ {A = Best} (record { place = i; layer = 4 }) (bestOf t state x)
   unfolding bestOf
   best-full i h e b =
-      let q = fits (scoreOf t state s l) (t .rulecount) in
-      let k : 5 ≤ greatest (scoreOf t state s l) (t .rulecount) = omega (arith, q .1 .below i h) in
-      let m : greatest (scoreOf t state s l) (t .rulecount) ≡ 5 = omega (arith, q .1 .held (omega arith), score-small (q .0)) in
-      let p : first (λ j. eqb (scoreOf t state s l j) 5) (t .rulecount) ≡ i =
-      first-is (λ j. eqb (scoreOf t state s l j) 5) (t .rulecount) i h (eq-eqb (scoreOf t state s l i) 5 e)
-      (λ j n. ne-eqb (scoreOf t state s l j) 5 (λ f. absurd (omega (arith, b j n, f)))) in
+      let q = fits (scoreOf t state x) (t .rulecount) in
+      let k : 5 ≤ greatest (scoreOf t state x) (t .rulecount) = omega (arith, q .1 .below i h) in
+      let m : greatest (scoreOf t state x) (t .rulecount) ≡ 5 = omega (arith, q .1 .held (omega arith), score-small (q .0)) in
+      let p : first (λ j. eqb (scoreOf t state x j) 5) (t .rulecount) ≡ i =
+      first-is (λ j. eqb (scoreOf t state x j) 5) (t .rulecount) i h (eq-eqb (scoreOf t state x i) 5 e)
+      (λ j n. ne-eqb (scoreOf t state x j) 5 (λ f. absurd (omega (arith, b j n, f)))) in
       rw (m, p)
 
   -- the best fit decides where all four layers match
-  best-decides : t .rulecount ≤ 64 → cond (eqb (bestOf t state s l .layer) 4) (bestOf t state s l .place) 64 ≡ deciderOf t state s l
-  best-decides small = go (eqb (deciderOf t state s l) 64) refl
+  best-decides : t .rulecount ≤ 64 → cond (eqb (bestOf t state x .layer) 4) (bestOf t state x .place) 64 ≡ deciderOf t state x
+  best-decides small = go (eqb (deciderOf t state x) 64) refl
     where
-      go : (b : Bool) → eqb (deciderOf t state s l) 64 ≡ b → cond (eqb (bestOf t state s l .layer) 4) (bestOf t state s l .place) 64 ≡ deciderOf t state s l
+      go : (b : Bool) → eqb (deciderOf t state x) 64 ≡ b → cond (eqb (bestOf t state x .layer) 4) (bestOf t state x .place) 64 ≡ deciderOf t state x
       go true e =
-          let d = eqb-true (deciderOf t state s l) 64 e in
-          rw (d, ne-eqb (bestOf t state s l .layer) 4 (λ f. absurd (omega (arith, f, best-open small d))))
+          let d = eqb-true (deciderOf t state x) 64 e in
+          rw (d, ne-eqb (bestOf t state x .layer) 4 (λ f. absurd (omega (arith, f, best-open small d))))
       go false e =
-          let q = decider-is t state s l (deciderOf t state s l) refl (omega (arith, eqb-false (deciderOf t state s l) 64 e, decider-small t state s l small)) in
-          rw (← best-full (deciderOf t state s l) (q .0) (score-matches (deciderOf t state s l) (q .1) (q .2))
+          let q = decider-is t state x (deciderOf t state x) refl (omega (arith, eqb-false (deciderOf t state x) 64 e, decider-small t state x small)) in
+          rw (← best-full (deciderOf t state x) (q .0) (score-matches (deciderOf t state x) (q .1) (q .2))
           (λ j h. omega (arith, score-open j (q .3 j h))))
 
   -- so it tells who does
   pub best-whole :
-      (b : Best) → t .rulecount ≤ 64 → b ≡ bestOf t state s l → b .layer ≡ 4
-      → _≡_ {A = Decision} (record { decider = b .place; best = b }) (decisionOf t state s l)
-  best-whole b small e h = rw e (λ i. record { decider = told i; best = bestOf t state s l })
+      (b : Best) → t .rulecount ≤ 64 → b ≡ bestOf t state x → b .layer ≡ 4
+      → _≡_ {A = Decision} (record { decider = b .place; best = b }) (decisionOf t state x)
+  best-whole b small e h = rw e (λ i. record { decider = told i; best = bestOf t state x })
     where
-      told : bestOf t state s l .place ≡ deciderOf t state s l
-      told = sym (rw (eq-eqb (bestOf t state s l .layer) 4 (rw e at h)) at (sym (best-decides small)))
+      told : bestOf t state x .place ≡ deciderOf t state x
+      told = sym (rw (eq-eqb (bestOf t state x .layer) 4 (rw e at h)) at (sym (best-decides small)))
 
   pub best-part :
-      (b : Best) → t .rulecount ≤ 64 → b ≡ bestOf t state s l → (b .layer ≡ 4 → ⊥)
-      → _≡_ {A = Decision} (record { decider = 64; best = b }) (decisionOf t state s l)
-  best-part b small e h = rw e (λ i. record { decider = told i; best = bestOf t state s l })
+      (b : Best) → t .rulecount ≤ 64 → b ≡ bestOf t state x → (b .layer ≡ 4 → ⊥)
+      → _≡_ {A = Decision} (record { decider = 64; best = b }) (decisionOf t state x)
+  best-part b small e h = rw e (λ i. record { decider = told i; best = bestOf t state x })
     where
-      told : 64 ≡ deciderOf t state s l
-      told = sym (rw (ne-eqb (bestOf t state s l .layer) 4 (rw e at h)) at (sym (best-decides small)))
+      told : 64 ≡ deciderOf t state x
+      told = sym (rw (ne-eqb (bestOf t state x .layer) 4 (rw e at h)) at (sym (best-decides small)))

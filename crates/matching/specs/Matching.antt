@@ -16,7 +16,7 @@ use Rattle.layers.specs.declared.Transport.the-variants as transport
 use Rattle.layers.specs.declared.Message.{Message}
 use Rattle.layers.specs.declared.Someip.{Someip}
 use Rattle.layers.specs.declared.Someip.the-variants as someip
-use Rattle.layers.specs.declared.Layers.{Layers}
+use Rattle.layers.specs.Seen.{Seen}
 use Rattle.table.specs.declared.Kind.{Kind}
 use Rattle.table.specs.declared.Kind.the-variants as kind
 use Rattle.table.specs.declared.LinkSettings.{LinkSettings}
@@ -38,7 +38,7 @@ use Rattle.table.specs.Settings.{
   inPrefix,
   sameKind,
 }
-use Rattle.table.specs.Table.{ruleAt, active}
+use Rattle.table.specs.Table.{mostRules, ruleAt, active}
 
 -- Link, which is always present. "VLAN settings never agree with an untagged frame"
 abbrev pub tagTests : LinkSettings → Tag → List Bool
@@ -47,8 +47,8 @@ tagTests r (tag.Tagged priority vlan) = agrees eqb (of16 (r .vlan)) vlan ∷ agr
 
 abbrev pub linkTests : LinkSettings → Link → List Bool
 linkTests r x =
-    agrees eqb (of64 (r .destination)) (x .dst)
-    ∷ agrees eqb (of64 (r .source)) (x .src)
+    agrees eqb (of64 (r .destination)) (x .destination)
+    ∷ agrees eqb (of64 (r .source)) (x .source)
     ∷ agrees eqb (of16 (r .ether)) (x .ether)
     ∷ tagTests r (x .tag)
 
@@ -127,22 +127,22 @@ unfoldable pub someipMatches : SomeipSettings → List ℕ → Someip → Bool
 someipMatches r s x = layerMatches (someipUnset r) (messagesAgree r (messagesOf s x))
 
 -- the four layers, from link upward. "A rule matches if all four layers do"
-unfoldable pub layerTests : Rule → List ℕ → Layers → List Bool
-layerTests r s l =
-    linkMatches (r .link) (l .link)
-    ∷ ipv4Matches (r .ipv4) (l .ip)
-    ∷ transportMatches (r .transport) (l .transport)
-    ∷ someipMatches (r .someip) s (l .someip)
+unfoldable pub layerTests : Rule → Seen → List Bool
+layerTests r x =
+    linkMatches (r .link) (x .layers .link)
+    ∷ ipv4Matches (r .ipv4) (x .layers .ip)
+    ∷ transportMatches (r .transport) (x .layers .transport)
+    ∷ someipMatches (r .someip) (x .bytes) (x .layers .someip)
     ∷ []
 
-unfoldable pub ruleMatches : Rule → List ℕ → Layers → Bool
-ruleMatches r s l = every (layerTests r s l)
+unfoldable pub ruleMatches : Rule → Seen → Bool
+ruleMatches r x = every (layerTests r x)
 
 -- "The first active matching rule decides": its place, or 64, the default's, where none matches
-unfoldable pub decides : Table → ℕ → List ℕ → Layers → ℕ → Bool
-decides t state s l i = active t state i && ruleMatches (ruleAt t i) s l
+unfoldable pub decides : Table → ℕ → Seen → ℕ → Bool
+decides t state x i = active t state i && ruleMatches (ruleAt t i) x
 
-unfoldable pub deciderOf : Table → ℕ → List ℕ → Layers → ℕ
-deciderOf t state s l =
-    let i = first (decides t state s l) (t .rulecount) in
-    cond (ltb i (t .rulecount)) i 64
+unfoldable pub deciderOf : Table → ℕ → Seen → ℕ
+deciderOf t state x =
+    let i = first (decides t state x) (t .rulecount) in
+    cond (ltb i (t .rulecount)) i mostRules

@@ -2,20 +2,23 @@
 ghost use mathlib.Core.Path.{_≡_};
 ghost use mathlib.Core.Bool.{cond};
 ghost use Prim.Native.Nat.{suc, _<_, _≤_};
-ghost use Rattle.table.specs.Table.{marked as markedAt};
+ghost use Rattle.numbers.specs.Lists.{leading};
+ghost use Rattle.table.specs.Table.{mostRules, mostStates, marked as markedAt};
 ghost use Rattle.table.specs.Words.{ruleIn, tableIn};
+ghost use Rattle.layers.specs.Seen.{seen};
 ghost use Rattle.matching.specs.Matching.{layerTests};
-ghost use Rattle.matching.specs.Best.{leading, bestOf, decisionOf};
+ghost use Rattle.matching.specs.Best.{bestOf, decisionOf};
 use crate::rules::*;
 use crate::*;
 use layers::*;
+use table::RULES;
 use table::settings::*;
 use table::words::*;
 
 // One more than the layers matched of an active rule, and 0 for one that is not active.
 pub(crate) fn score(r: &RuleWords, marks: u64, i: usize, s: &[u8], l: Layers) -> usize
-    requires { ⌜ i < 64 ⌝ }
-    ensures { λ n. ⌜ n ≡ cond (markedAt marks i) (suc (leading (layerTests (ruleIn (now (r .entry))) (now (s .entry)) l))) 0 ⌝ }
+    requires { ⌜ i < mostRules ⌝ }
+    ensures { λ n. ⌜ n ≡ cond (markedAt marks i) (suc (leading (layerTests (ruleIn (now (r .entry))) (seen (now (s .entry)) l)))) 0 ⌝ }
 {
     if !marked(marks, i) {
         return 0;
@@ -25,13 +28,14 @@ pub(crate) fn score(r: &RuleWords, marks: u64, i: usize, s: &[u8], l: Layers) ->
 
 // The first of the active rules with the greatest score. None is above that of a rule that matches, so none behind one is looked at.
 fn best_fit(t: &TableWords, state: usize, s: &[u8], l: Layers) -> Best
-    requires { ⌜ (state < 8) × (tableIn (now t) .rulecount ≤ 64) ⌝ }
-    ensures { λ r. ⌜ r ≡ bestOf (tableIn (now (t .entry))) state (now (s .entry)) l ⌝ }
+    requires state { ⌜ state < mostStates ⌝ }
+    requires rules { ⌜ tableIn (now t) .rulecount ≤ mostRules ⌝ }
+    ensures { λ r. ⌜ r ≡ bestOf (tableIn (now (t .entry))) state (seen (now (s .entry)) l) ⌝ }
 {
-    rows(*t);
+    tell_table(*t);
     let marks = marks_of(t, state);
     let count = rulecount(t);
-    let mut place = 64;
+    let mut place = RULES;
     let mut most = 0;
     let mut i = 0;
     while (i < count) & (most < 5) {
@@ -44,7 +48,7 @@ fn best_fit(t: &TableWords, state: usize, s: &[u8], l: Layers) -> Best
     }
     if most == 0 {
         return Best {
-            place: 64,
+            place: RULES,
             layer: 0,
         };
     }
@@ -56,10 +60,11 @@ fn best_fit(t: &TableWords, state: usize, s: &[u8], l: Layers) -> Best
 
 // Who decides is told by the best fit, so that one walk finds both: it decides where all four layers match.
 pub fn decide(t: &TableWords, state: usize, s: &[u8], l: Layers) -> Decision
-    requires { ⌜ (state < 8) × (tableIn (now t) .rulecount ≤ 64) ⌝ }
-    ensures { λ r. ⌜ r ≡ decisionOf (tableIn (now (t .entry))) state (now (s .entry)) l ⌝ }
+    requires state { ⌜ state < mostStates ⌝ }
+    requires rules { ⌜ tableIn (now t) .rulecount ≤ mostRules ⌝ }
+    ensures { λ r. ⌜ r ≡ decisionOf (tableIn (now (t .entry))) state (seen (now (s .entry)) l) ⌝ }
 {
     let best = best_fit(t, state, s, l);
-    let decider = if best.layer == 4 { best.place } else { 64 };
+    let decider = if best.layer == 4 { best.place } else { RULES };
     Decision { decider, best }
 }

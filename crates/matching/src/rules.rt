@@ -1,8 +1,8 @@
 // Does a layer of a rule match what a frame shows of it, and does the rule?
 ghost use mathlib.Core.Path.{_≡_};
-ghost use Rattle.numbers.specs.Lists.{every};
+ghost use Rattle.numbers.specs.Lists.{every, leading};
+ghost use Rattle.layers.specs.Seen.{seen};
 ghost use Rattle.matching.specs.Matching.{tagTests, linkMatches, ipv4Matches, portsAgree, transportMatches, someipMatches, layerTests};
-ghost use Rattle.matching.specs.Best.{leading};
 ghost use Rattle.table.specs.Words.{ruleIn};
 use crate::agrees::*;
 use layers::*;
@@ -33,10 +33,10 @@ pub(crate) fn link_matches(r: LinkSettings, x: Link) -> bool
     let source = r.source;
     let ether = r.ether;
     let tag = x.tag;
-    if !agrees64(destination, x.dst) {
+    if !agrees64(destination, x.destination) {
         return false;
     }
-    if !agrees64(source, x.src) {
+    if !agrees64(source, x.source) {
         return false;
     }
     if !agrees16(ether, x.ether) {
@@ -113,7 +113,7 @@ pub(crate) fn someip_matches(r: SomeipSettings, s: &[u8], x: Someip) -> bool
 
 // The layers that match, from link upward to the first that does not.
 pub(crate) fn layers_matched(r: &RuleWords, s: &[u8], l: Layers) -> usize
-    ensures { λ n. ⌜ n ≡ leading (layerTests (ruleIn (now (r .entry))) (now (s .entry)) l) ⌝ }
+    ensures { λ n. ⌜ n ≡ leading (layerTests (ruleIn (now (r .entry))) (seen (now (s .entry)) l)) ⌝ }
 {
     let ip = l.ip;
     let transport = l.transport;

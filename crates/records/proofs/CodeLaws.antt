@@ -1,40 +1,12 @@
--- Laws of the words that the code writes, and of tests in a row.
+-- Laws of the words that the code writes.
 -- Assumes nothing.
 use Prim.Native.Nat.{ℕ, zero, suc, _<_}
 use mathlib.Core.Path.{_≡_, refl, ap, ap₂}
-use mathlib.Core.Bool.{Bool, true, false, _&&_}
-use mathlib.Core.List.{List, [], _∷_, map}
-use lib.ListN.{length, getD, set, take, List·getD-map}
+use mathlib.Core.List.{List, [], _∷_}
+use lib.ListN.{length, getD, set, take}
 use native.Mathlib.Nat.{le-of-suc-le-suc, not-suc-le-zero}
 use Rattle.numbers.specs.Lists.{each, firsts}
-use Rattle.records.specs.Records.{free, RuleRecord, placeOf, ruleOf, rulesOf}
-
--- ---- tests in a row, as the code writes them and as `every` has them
-
-pub and-true : (b : Bool) → b ≡ (b && true)
-and-true true = refl
-and-true false = refl
-
-pub and-three : (a b c : Bool) → ((a && b) && c) ≡ (a && (b && (c && true)))
-and-three true true true = refl
-and-three true true false = refl
-and-three true false c = refl
-and-three false b c = refl
-
-pub and-four : (a b c d : Bool) → (((a && b) && c) && d) ≡ (a && (b && (c && (d && true))))
-and-four true b c d = and-three b c d
-and-four false b c d = refl
-
--- ---- places
-
-pub map-set : {A B : Type 0} (f : A → B) (l : List A) (i : ℕ) (y : A) → map f (set l i y) ≡ set (map f l) i (f y)
-map-set f [] i y = refl
-map-set f (x ∷ l) zero y = refl
-map-set f (x ∷ l) (suc i) y = ap (λ k. f x ∷ k) (map-set f l i y)
-
--- the place that the words at j say
-pub place-at : (ps : List (List ℕ)) (j : ℕ) → getD (map placeOf ps) j free ≡ placeOf (getD ps j [])
-place-at ps j = List·getD-map placeOf ps j []
+use Rattle.records.specs.Records.{RuleRecord, ruleOf, rulesOf}
 
 -- ---- rules made anew
 

@@ -1,9 +1,9 @@
 -- Good records stay good, through each step and call. Assumes nothing.
-use Prim.Native.Nat.{ℕ, zero, suc, _+_, _-_, _*_, _<_, _≤_}
+use Prim.Native.Nat.{ℕ, zero, suc, _-_, _*_, _<_, _≤_}
 use native.Mathlib.Nat.{zero-sub}
 use native.Mathlib.Omega.{arith}
 use mathlib.Core.Path.{_≡_, refl, sym, ap, subst, _∙_}
-use mathlib.Core.Bool.{true, false, false≢true}
+use mathlib.Core.Bool.{true, false≢true}
 use mathlib.Core.List.{List, [], _∷_, _++_}
 use lib.ListN.{length, getD, length-set, length-take, List·getD-eq-default}
 use lib.Seq.{getD-set-same, getD-set-other, getD-take, set-out, ext-getD}
@@ -15,20 +15,26 @@ use Rattle.table.specs.declared.Rule.{Rule}
 use Rattle.table.specs.declared.Table.{Table}
 use Rattle.table.specs.declared.Action.{Action}
 use Rattle.table.specs.declared.Tracking.{Tracking}
-use Rattle.table.specs.declared.Fault.the-variants as fault
-use Rattle.table.specs.Table.{noRule, ruleAt, stateAt, rulesOf, bucketOf, trackingOf, freshId, faultOf}
+use Rattle.faults.specs.declared.Fault.the-variants as fault
+use Rattle.table.specs.Table.{noRule, ruleAt, stateAt, rulesOf, bucketOf, trackingOf}
+use Rattle.faults.specs.Faults.{freshId, faultOf}
 use Rattle.table.specs.declared.Room.{Room}
-use Rattle.table.proofs.Good.{good-count, good-rule, good-states, good-tracking}
-use Rattle.records.specs.Records.{free, RuleRecord, Records, noRecord, recordAt, default, ShapedRecords}
+use Rattle.faults.proofs.Good.{good-count, good-rule, good-states, good-tracking}
 use Rattle.table.specs.declared.Bucket.{Bucket}
 use Rattle.table.specs.declared.Bucket.the-variants as bucket
 use Rattle.table.specs.declared.Tracking.the-variants as tracking
-use Rattle.records.specs.Rule.{drained, agedPlaces, isFree, aged, reacted, Reacted}
+use Rattle.conversations.specs.Places.{free, isFree, mostPlaces, Fits, All, Sized}
+use Rattle.conversations.specs.Ageing.{agedPlaces}
+use Rattle.conversations.specs.Good.{young, clean, limitIn, isIpv4}
+use Rattle.conversations.specs.declared.Turn.{Turn}
+use Rattle.conversations.proofs.ListLaws.{by-test, by-less, or-second}
+use Rattle.conversations.proofs.HoldLaws.{free-holds}
+use Rattle.conversations.proofs.PlaceLaws.{free-fits}
+use Rattle.conversations.proofs.PlacesLaws.{at, LimitGood}
+use Rattle.records.specs.Records.{RuleRecord, Records, noRecord, recordAt, default, ShapedRecords}
+use Rattle.records.specs.Rule.{drained, aged, reacted, Reacted}
 use Rattle.records.specs.Good.{
   hasBucket,
-  young,
-  clean,
-  limitIn,
   recordTests,
   recordGood,
   ruleOfRecord,
@@ -36,15 +42,8 @@ use Rattle.records.specs.Good.{
   recordsGood,
 }
 use Rattle.records.specs.Step.{freshRule, freshOf, switchedTo, ticked, defaulted, reactedAt, reaction, acted}
-use Rattle.records.specs.declared.Segment.{Segment}
 use Rattle.records.proofs.RuleLaws.{
-  by-test,
-  by-less,
-  or-second,
-  free-holds,
-  at,
   good-out,
-  LimitGood,
   aged-zero,
   aged-good,
   reacted-good,
@@ -52,7 +51,9 @@ use Rattle.records.proofs.RuleLaws.{
   reacted-count,
   verdict-plain,
   aged-places,
+  aged-fit,
   reacted-places,
+  reacted-fit,
 }
 
 -- ---- a good table
@@ -108,17 +109,17 @@ ticked-at t reading s i =
     each-at (aged e) noRule noRecord (aged-no-rule e) (aged-no-record e) (rulesOf t) (s .rules) i
 
 pub acted-own :
-    (t : Table) (g : Segment) (d : ℕ) (s : Records) → d < length (s .rules) → recordAt (acted t g d s) d ≡ reaction t g d s .after
+    (t : Table) (g : Turn) (d : ℕ) (s : Records) → d < length (s .rules) → recordAt (acted t g d s) d ≡ reaction t g d s .after
 unfolding acted
 acted-own t g d s h = getD-set-same (s .rules) d (reaction t g d s .after) noRecord h
 
 pub acted-other :
-    (t : Table) (g : Segment) (d : ℕ) (s : Records) (i : ℕ) → (i ≡ d → ⊥) → recordAt (acted t g d s) i ≡ recordAt s i
+    (t : Table) (g : Turn) (d : ℕ) (s : Records) (i : ℕ) → (i ≡ d → ⊥) → recordAt (acted t g d s) i ≡ recordAt s i
 unfolding acted
 acted-other t g d s i ne = getD-set-other (s .rules) d i (reaction t g d s .after) noRecord ne
 
 acted-none :
-    (t : Table) (g : Segment) (d : ℕ) (s : Records) (i : ℕ) → length (s .rules) ≤ d → recordAt (acted t g d s) i ≡ recordAt s i
+    (t : Table) (g : Turn) (d : ℕ) (s : Records) (i : ℕ) → length (s .rules) ≤ d → recordAt (acted t g d s) i ≡ recordAt s i
 unfolding acted
 acted-none t g d s i h = ap (λ l. getD l i noRecord) (set-out (s .rules) d (reaction t g d s .after) h)
 
@@ -126,13 +127,13 @@ pub ticked-length : (t : Table) (reading : ℕ) (s : Records) → length (ticked
 unfolding ticked
 ticked-length t reading s = length-each (aged (reading - s .last)) (rulesOf t) (s .rules)
 
-pub acted-length : (t : Table) (g : Segment) (d : ℕ) (s : Records) → length (acted t g d s .rules) ≡ length (s .rules)
+pub acted-length : (t : Table) (g : Turn) (d : ℕ) (s : Records) → length (acted t g d s .rules) ≡ length (s .rules)
 unfolding acted
 acted-length t g d s = length-set (s .rules) d (reaction t g d s .after)
 
 -- what holds of each record as it was, and of the decider's after its reaction, holds of each after the frame
 pub acted-by :
-    (t : Table) (g : Segment) (d : ℕ) (s : Records) (i : ℕ) (P : RuleRecord → Type 0)
+    (t : Table) (g : Turn) (d : ℕ) (s : Records) (i : ℕ) (P : RuleRecord → Type 0)
     → (i ≡ d → P (reaction t g d s .after)) → P (recordAt s i) → P (recordAt (acted t g d s) i)
 acted-by t g d s i P new old =
     by-test (eqb i d) (λ e. here (eqb-true i d e)) (λ e. subst P (sym (acted-other t g d s i (eqb-false i d e))) old)
@@ -145,7 +146,7 @@ acted-by t g d s i P new old =
 
 -- ---- the decider, a rule or the default
 
-module _ (t : Table) (state : ℕ) (g : Segment) (d : ℕ) (x : RuleRecord) where
+module _ (t : Table) (state : ℕ) (g : Turn) (d : ℕ) (x : RuleRecord) where
   pub at-rule : d < default → reactedAt t state g d x ≡ reacted (ruleAt t d) g x
   unfolding reactedAt
   at-rule h = rw (lt-ltb d default h)
@@ -167,9 +168,12 @@ module _ (t : Table) (state : ℕ) (g : Segment) (d : ℕ) (x : RuleRecord) wher
   pub at-places : length (reactedAt t state g d x .after .places) ≡ length (x .places)
   at-places = at-by (λ y. length (y .after .places) ≡ length (x .places)) (λ h. reacted-places (ruleAt t d) g x) refl
 
+  at-fit : All Fits (x .places) → All Fits (reactedAt t state g d x .after .places)
+  at-fit a = at-by (λ y. All Fits (y .after .places)) (λ h. reacted-fit (ruleAt t d) g x a) a
+
 -- without bucket and tracking, and by the default, the verdict does not look at the record
 pub at-plain :
-    (t : Table) (state : ℕ) (g : Segment) (d : ℕ) (x y : RuleRecord)
+    (t : Table) (state : ℕ) (g : Turn) (d : ℕ) (x y : RuleRecord)
     → (d < default → (bucketOf (ruleAt t d) ≡ bucket.Unset) × (trackingOf (ruleAt t d) ≡ tracking.Unset))
     → reactedAt t state g d x .verdict ≡ reactedAt t state g d y .verdict
 at-plain t state g d x y p =
@@ -190,14 +194,14 @@ unfolding recordGood recordTests
 default-good r a x h = h
 
 pub at-good :
-    (t : Table) (state : ℕ) (g : Segment) (d : ℕ) (x : RuleRecord) → faultOf t ≡ fault.Good → Decider t d
+    (t : Table) (state : ℕ) (g : Turn) (d : ℕ) (x : RuleRecord) → isIpv4 (g .quad) ≡ true → faultOf t ≡ fault.Good → Decider t d
     → recordGood (ruleOfRecord t d) x ≡ true → recordGood (ruleOfRecord t d) (reactedAt t state g d x .after) ≡ true
-at-good t state g d x e w h =
+at-good t state g d x v e w h =
     at-by t state g d x (λ y. recordGood (ruleOfRecord t d) (y .after) ≡ true)
     (λ m.
     let q : ruleOfRecord t d ≡ ruleAt t d = rule-within t d (w m) in
     subst (λ r. recordGood r (reacted (ruleAt t d) g x .after) ≡ true) (sym q)
-    (reacted-good (ruleAt t d) g x (good-limit t e d (w m)) (subst (λ r. recordGood r x ≡ true) q h)))
+    (reacted-good (ruleAt t d) g x (good-limit t e d (w m)) v (subst (λ r. recordGood r x ≡ true) q h)))
     (default-good (ruleOfRecord t d) (stateAt t state .default) x h)
 
 -- ---- good records
@@ -226,16 +230,16 @@ ticked-good t reading s h =
     ap (recordGood r) (ticked-at t reading s i) ∙ aged-good (reading - s .last) r (recordAt s i) (good-record t s h i m))
 
 pub acted-good :
-    (t : Table) (g : Segment) (d : ℕ) (s : Records) → faultOf t ≡ fault.Good → Decider t d → recordsGood t s ≡ true
-    → recordsGood t (acted t g d s) ≡ true
+    (t : Table) (g : Turn) (d : ℕ) (s : Records) → isIpv4 (g .quad) ≡ true → faultOf t ≡ fault.Good → Decider t d
+    → recordsGood t s ≡ true → recordsGood t (acted t g d s) ≡ true
 unfolding acted
-acted-good t g d s e w h =
+acted-good t g d s v e w h =
     all-good t (acted t g d s) (good-state t s h)
     (λ i m.
     acted-by t g d s i (λ x. recordGood (ruleOfRecord t i) x ≡ true)
     (λ q.
     subst (λ k. recordGood (ruleOfRecord t k) (reaction t g d s .after) ≡ true) (sym q)
-    (at-good t (s .state) g d (recordAt s d) e w (good-record t s h d (subst (λ k. k < 65) q m))))
+    (at-good t (s .state) g d (recordAt s d) v e w (good-record t s h d (subst (λ k. k < 65) q m))))
     (good-record t s h i m))
 
 pub switch-good :
@@ -324,7 +328,7 @@ ticked-still t reading s e h q = ticked-back t reading s e h (omega arith) ∙ a
 pub ticked-shaped : (t : Table) (reading : ℕ) (s : Records) → ShapedRecords s → ShapedRecords (ticked t reading s)
 ticked-shaped t reading s h = record {
   rules = ticked-length t reading s ∙ h .rules;
-  places = λ i m. ticked-places i ∙ h .places i m;
+  places = λ i m. (ticked-places i ∙ h .places i m .0, fit i (h .places i m .1));
   none = ticked-places default ∙ h .none;
 }
   where
@@ -333,10 +337,15 @@ ticked-shaped t reading s h = record {
         ap (λ x. length (x .places)) (ticked-at t reading s i)
         ∙ aged-places (reading - s .last) (ruleOfRecord t i) (recordAt s i)
 
-pub acted-shaped : (t : Table) (g : Segment) (d : ℕ) (s : Records) → ShapedRecords s → ShapedRecords (acted t g d s)
+    fit : (i : ℕ) → All Fits (recordAt s i .places) → All Fits (recordAt (ticked t reading s) i .places)
+    fit i a =
+        subst (λ x. All Fits (x .places)) (sym (ticked-at t reading s i))
+        (aged-fit (reading - s .last) (ruleOfRecord t i) (recordAt s i) a)
+
+pub acted-shaped : (t : Table) (g : Turn) (d : ℕ) (s : Records) → ShapedRecords s → ShapedRecords (acted t g d s)
 acted-shaped t g d s h = record {
   rules = acted-length t g d s ∙ h .rules;
-  places = λ i m. acted-places i ∙ h .places i m;
+  places = λ i m. (acted-places i ∙ h .places i m .0, fit i (h .places i m .1));
   none = acted-places default ∙ h .none;
 }
   where
@@ -346,13 +355,23 @@ acted-shaped t g d s h = record {
         (λ q. at-places t (s .state) g d (recordAt s d) ∙ ap (λ k. length (recordAt s k .places)) (sym q))
         refl
 
+    fit : (i : ℕ) → All Fits (recordAt s i .places) → All Fits (recordAt (acted t g d s) i .places)
+    fit i a =
+        acted-by t g d s i (λ x. All Fits (x .places))
+        (λ q. at-fit t (s .state) g d (recordAt s d) (subst (λ k. All Fits (recordAt s k .places)) q a))
+        a
+
 pub switch-shaped : (state : ℕ) (s : Records) → ShapedRecords s → ShapedRecords (switchedTo state s)
 unfolding switchedTo
 switch-shaped state s h = record { rules = h .rules; places = h .places; none = h .none }
 
-fresh-places : (n i : ℕ) → i < n → length (getD (copies n freshRule ++ (noRecord ∷ [])) i noRecord .places) ≡ 8
+free-fit : (n : ℕ) → All Fits (copies n free)
+free-fit zero = tt
+free-fit (suc n) = (free-fits, free-fit n)
+
+fresh-places : (n i : ℕ) → i < n → Sized mostPlaces Fits (getD (copies n freshRule ++ (noRecord ∷ [])) i noRecord .places)
 fresh-places zero i m = absurd (omega arith)
-fresh-places (suc n) zero m = refl
+fresh-places (suc n) zero m = (refl, free-fit 8)
 fresh-places (suc n) (suc i) m = fresh-places n i (omega arith)
 
 pub fresh-shaped : (reading : ℕ) → ShapedRecords (freshOf reading)

@@ -2,9 +2,6 @@ pub mod RuleLaws
 pub mod GoodLaws
 pub mod WordLaws
 pub mod CodeLaws
-pub mod TrackLaws
 pub mod TimeLaws
 pub mod ActLaws
 pub mod GoodCode
-pub mod ShapeLaws
-pub mod ScanLaws

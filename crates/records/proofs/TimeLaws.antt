@@ -3,71 +3,35 @@
 use Prim.Native.Nat.{ℕ, _+_, _-_, _*_, _<_, _≤_}
 use mathlib.Core.Path.{_≡_, refl, sym, ap, subst, _∙_}
 use mathlib.Core.Bool.{true}
-use mathlib.Core.List.{List, [], map}
-use lib.ListN.{length, getD, set, length-map, length-take}
+use mathlib.Core.List.{List, []}
+use lib.ListN.{length, getD, set, length-take}
 use lib.Seq.{getD-set-same, getD-set-other}
 use native.Mathlib.Nat.{one-mul, mul-le-mul-right}
 use native.Mathlib.Omega.{arith}
-use borrow.Author.Tests.{eq-eqb, ne-eqb, eqb-false}
+use borrow.Author.Tests.{eqb-false}
 use Rattle.numbers.specs.Lists.{each, firsts}
-use Rattle.numbers.proofs.Lists.{firsts-next, firsts-map}
+use Rattle.numbers.proofs.Lists.{firsts-next}
 use Rattle.table.specs.declared.Rule.{Rule}
 use Rattle.table.specs.declared.Table.{Table}
 use Rattle.table.specs.Table.{noRule, bucketOf, trackingOf}
 use Rattle.table.specs.Table as table
-use Rattle.records.specs.Records.{Place, free, noRecord, placeOf, ruleOf, rulesOf, recordsOf, words}
-use Rattle.records.specs.Rule.{withAge, drained, agedPlace, agedPlaces, aged}
+use Rattle.conversations.specs.Places.{placesOf}
+use Rattle.conversations.specs.Ageing.{agedPlaces}
+use Rattle.records.specs.Records.{noRecord, ruleOf, rulesOf, recordsOf, lent}
+use Rattle.records.specs.Rule.{drained, aged}
 use Rattle.records.specs.Step.{ticked}
 use Rattle.records.specs.Good.{recordsGood}
-use Rattle.records.proofs.RuleLaws.{aged-free, aged-kept, aged-gone}
 use Rattle.records.proofs.GoodLaws.{aged-no-rule, withLast, ticked-none}
 use Rattle.records.proofs.WordLaws.{rules-at}
-use Rattle.records.proofs.CodeLaws.{map-set, place-at, firsts-take, rule-set}
+use Rattle.records.proofs.CodeLaws.{firsts-take, rule-set}
 
 pub at-least : (refill elapsed : ℕ) → 0 < refill → elapsed ≤ refill * elapsed
 at-least refill elapsed h = subst (λ (n : ℕ). n ≤ refill * elapsed) (one-mul elapsed) (mul-le-mul-right elapsed h)
 
--- ---- a place
-
-age-set : (w : List ℕ) (x : ℕ) → length w ≡ 5 → placeOf (set w 4 x) ≡ withAge (placeOf w) x
-age-set w x n = λ i. record {
-  state = getD-set-other w 4 0 x 0 (eqb-false 0 4 refl) i;
-  quad = record {
-    source = getD-set-other w 4 1 x 0 (eqb-false 1 4 refl) i;
-    destination = getD-set-other w 4 2 x 0 (eqb-false 2 4 refl) i;
-    ports = getD-set-other w 4 3 x 0 (eqb-false 3 4 refl) i;
-  };
-  age = getD-set-same w 4 x 0 (omega arith) i;
-}
-
-module _ (limit elapsed : ℕ) (w : List ℕ) where
-  pub place-free : getD w 0 0 ≡ 0 → placeOf w ≡ agedPlace limit elapsed (placeOf w)
-  place-free h = sym (aged-free limit elapsed (placeOf w) (eq-eqb (getD w 0 0) 0 h))
-
-  pub place-older : (getD w 0 0 ≡ 0 → ⊥) → length w ≡ 5 → getD w 4 0 + elapsed < limit
-      → placeOf (set w 4 (getD w 4 0 + elapsed)) ≡ agedPlace limit elapsed (placeOf w)
-  place-older h n m = age-set w (getD w 4 0 + elapsed) n ∙ sym (aged-kept limit elapsed (placeOf w) (ne-eqb (getD w 0 0) 0 h) m)
-
-  pub place-old : (getD w 0 0 ≡ 0 → ⊥) → limit ≤ getD w 4 0 + elapsed → free ≡ agedPlace limit elapsed (placeOf w)
-  place-old h m = sym (aged-gone limit elapsed (placeOf w) (ne-eqb (getD w 0 0) 0 h) m)
-
--- ---- a rule's places: one turn of the loop, and its end
-
-pub places-turn : (f : Place → Place) (ps₀ ps : List (List ℕ)) (j : ℕ) (w : List ℕ) → map placeOf ps ≡ firsts (λ i. f) j (map placeOf ps₀)
-    → placeOf w ≡ f (placeOf (getD ps j [])) → map placeOf (set ps j w) ≡ firsts (λ i. f) (j + 1) (map placeOf ps₀)
-places-turn f ps₀ ps j w e h =
-    map-set placeOf ps j w
-    ∙ firsts-next (λ i. f) free j (map placeOf ps₀) (map placeOf ps) (placeOf w) e (h ∙ ap f (sym (place-at ps j)))
-
-pub places-turned : (f : Place → Place) (ps₀ ps : List (List ℕ)) (j : ℕ) → j ≡ 8 → length ps₀ ≡ 8 → map placeOf ps ≡ firsts (λ i. f) j (map placeOf ps₀)
-    → map placeOf ps ≡ map f (map placeOf ps₀)
-places-turned f ps₀ ps j n h e =
-    e ∙ firsts-map f j (map placeOf ps₀) (omega (arith, length-map ps₀ placeOf))
-
 -- ---- a rule
 
 pub rule-aged : (elapsed : ℕ) (r : Rule) (c c' : List ℕ) (ps ps' : List (List ℕ)) → length c ≡ 3
-    → c' ≡ set c 0 (drained (bucketOf r) elapsed (getD c 0 0)) → map placeOf ps' ≡ agedPlaces (trackingOf r) elapsed (map placeOf ps)
+    → c' ≡ set c 0 (drained (bucketOf r) elapsed (getD c 0 0)) → placesOf ps' ≡ agedPlaces (trackingOf r) elapsed (placesOf ps)
     → ruleOf c' ps' ≡ aged elapsed r (ruleOf c ps)
 unfolding aged
 rule-aged elapsed r c c' ps ps' n e h =
@@ -102,7 +66,7 @@ module _ (t : Table) (e : ℕ) (cs₀ cs : List (List ℕ)) (ps₀ ps : List (Li
 
 module _ (t : Table) (reading e : ℕ) (h : List ℕ) (two : length h ≡ 2) (passed : e ≡ reading - getD h 0 0) (cs₀ : List (List ℕ)) (ps₀ : List (List (List ℕ))) where
   pub tick-aged : (cs : List (List ℕ)) (ps : List (List (List ℕ))) → rulesOf cs ps ≡ each (aged e) (table.rulesOf t) (rulesOf cs₀ ps₀)
-      → recordsOf (words (set h 0 reading) cs ps) ≡ ticked t reading (recordsOf (words h cs₀ ps₀))
+      → recordsOf (lent (set h 0 reading) cs ps) ≡ ticked t reading (recordsOf (lent h cs₀ ps₀))
   unfolding ticked recordsOf
   tick-aged cs ps p = λ i. record {
     last = getD-set-same h 0 reading 0 (omega arith) i;
@@ -110,7 +74,7 @@ module _ (t : Table) (reading e : ℕ) (h : List ℕ) (two : length h ≡ 2) (pa
     rules = (p ∙ ap (λ (n : ℕ). each (aged n) (table.rulesOf t) (rulesOf cs₀ ps₀)) passed) i;
   }
 
-  with-last : recordsOf (words (set h 0 reading) cs₀ ps₀) ≡ withLast (recordsOf (words h cs₀ ps₀)) reading
+  with-last : recordsOf (lent (set h 0 reading) cs₀ ps₀) ≡ withLast (recordsOf (lent h cs₀ ps₀)) reading
   unfolding recordsOf
   with-last = λ i. record {
     last = getD-set-same h 0 reading 0 (omega arith) i;
@@ -118,13 +82,13 @@ module _ (t : Table) (reading e : ℕ) (h : List ℕ) (two : length h ≡ 2) (pa
     rules = rulesOf cs₀ ps₀;
   }
 
-  back : e ≡ 0 → reading ≤ recordsOf (words h cs₀ ps₀) .last
+  back : e ≡ 0 → reading ≤ recordsOf (lent h cs₀ ps₀) .last
   unfolding recordsOf
   back z = omega arith
 
   -- no time has passed
-  pub tick-still : t .rulecount ≤ 64 → recordsGood t (recordsOf (words h cs₀ ps₀)) ≡ true → e ≡ 0
-      → recordsOf (words (set h 0 reading) cs₀ ps₀) ≡ ticked t reading (recordsOf (words h cs₀ ps₀))
+  pub tick-still : t .rulecount ≤ 64 → recordsGood t (recordsOf (lent h cs₀ ps₀)) ≡ true → e ≡ 0
+      → recordsOf (lent (set h 0 reading) cs₀ ps₀) ≡ ticked t reading (recordsOf (lent h cs₀ ps₀))
   tick-still n g z =
       with-last
-      ∙ sym (ticked-none t reading (recordsOf (words h cs₀ ps₀)) (omega (arith, length-take (t .rulecount) (t .rules))) g (back z))
+      ∙ sym (ticked-none t reading (recordsOf (lent h cs₀ ps₀)) (omega (arith, length-take (t .rulecount) (t .rules))) g (back z))

@@ -2,4 +2,3 @@ pub mod Records
 pub mod Rule
 pub mod Good
 pub mod Step
-pub mod Scan

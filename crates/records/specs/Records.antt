@@ -1,21 +1,25 @@
 -- The records, and the words that hold them. Document 01, 'The records'.
 -- Assumes nothing.
-use Prim.Native.Nat.{ℕ, _<_}
+use Prim.Native.Nat.{ℕ, _<_, _+_}
 use mathlib.Core.Path.{_≡_}
 use mathlib.Core.List.{List, [], _∷_, map}
 use lib.ListN.{length, getD, take}
-use Rattle.records.specs.declared.Quad.{Quad}
+use denote.Ref.{RefT, now}
+use denote.Triple.Both.{Both}
+use Rattle.table.specs.Table.{mostRules}
+use Rattle.conversations.specs.Places.{Place, mostPlaces, placesOf, placesWords, Fits, Sized, ShapedPlaces}
 
--- A place for a conversation: its state (0 free, 1 Opening, 2 Running, 3 Closing), "source and destination address and port", and its age in ms.
--- Both ports are one number, source x 65,536 + destination.
-pub record Place : Type 0 where
-  pub state : ℕ
-  pub quad : Quad
-  pub age : ℕ
+-- how many rows of counts there are: the last is the default's
+abbrev pub countRows : ℕ
+countRows = mostRules + 1
 
--- "A freed place is as in a fresh record"
-abbrev pub free : Place
-free = record { state = 0; quad = record { source = 0; destination = 0; ports = 0 }; age = 0 }
+-- how many words a row of counts has
+abbrev pub countSize : ℕ
+countSize = 3
+
+-- how many words stand at the head
+abbrev pub headSize : ℕ
+headSize = 2
 
 -- "per rule a bucket level, the conversations held, and counts of passed and blocked frames"
 pub record RuleRecord : Type 0 where
@@ -33,35 +37,58 @@ pub record Records : Type 0 where
 
 -- the place of the default among the rules' records
 abbrev pub default : ℕ
-default = 64
+default = mostRules
 
+-- the record where there is none
 abbrev pub noRecord : RuleRecord
 noRecord = record { level = 0; passed = 0; blocked = 0; places = [] }
 
+-- the record of the rule at i, or of the default
 abbrev pub recordAt : Records → ℕ → RuleRecord
 recordAt s i = getD (s .rules) i noRecord
 
 -- ---- the words
 
-pub record Words : Type 0 where
+-- where each word stands: in the head, and in a row of counts
+abbrev pub lastWord : ℕ
+lastWord = 0
+
+abbrev pub activeWord : ℕ
+activeWord = 1
+
+abbrev pub levelWord : ℕ
+levelWord = 0
+
+abbrev pub passedWord : ℕ
+passedWord = 1
+
+abbrev pub blockedWord : ℕ
+blockedWord = 2
+
+-- the words of the records, as they are lent to a call
+pub record Lent : Type 0 where
   pub head : List ℕ
   pub counts : List (List ℕ)
   pub places : List (List (List ℕ))
 
-abbrev pub words : List ℕ → List (List ℕ) → List (List (List ℕ)) → Words
-words h c p = record { head = h; counts = c; places = p }
+-- made of its three parts
+abbrev pub lent : List ℕ → List (List ℕ) → List (List (List ℕ)) → Lent
+lent head counts places = record { head = head; counts = counts; places = places }
 
--- state, source, destination, ports, age
-abbrev pub placeOf : List ℕ → Place
-placeOf w = record {
-  state = getD w 0 0;
-  quad = record { source = getD w 1 0; destination = getD w 2 0; ports = getD w 3 0 };
-  age = getD w 4 0;
-}
+-- words behind a reference, at a call's entry and at its exit
+abbrev pub AtCall : Type 0 → Type 0
+AtCall X = Both (RefT X) (RefT X)
+
+-- the words that are lent to a call, as it finds them and as it leaves them
+abbrev pub before : AtCall (List ℕ) → AtCall (List (List ℕ)) → AtCall (List (List (List ℕ))) → Lent
+before head counts places = lent (now (head .entry)) (now (counts .entry)) (now (places .entry))
+
+abbrev pub after : AtCall (List ℕ) → AtCall (List (List ℕ)) → AtCall (List (List (List ℕ))) → Lent
+after head counts places = lent (now (head .exit)) (now (counts .exit)) (now (places .exit))
 
 -- level, passed, blocked; and the places
 abbrev pub ruleOf : List ℕ → List (List ℕ) → RuleRecord
-ruleOf c ps = record { level = getD c 0 0; passed = getD c 1 0; blocked = getD c 2 0; places = map placeOf ps }
+ruleOf c ps = record { level = getD c levelWord 0; passed = getD c passedWord 0; blocked = getD c blockedWord 0; places = placesOf ps }
 
 -- a row of counts and a row of places for each rule; the default's row of counts has no partner
 abbrev pub rulesOf : List (List ℕ) → List (List (List ℕ)) → List RuleRecord
@@ -70,43 +97,37 @@ rulesOf (c ∷ cs) [] = ruleOf c [] ∷ rulesOf cs []
 rulesOf (c ∷ cs) (p ∷ ps) = ruleOf c p ∷ rulesOf cs ps
 
 -- last reading, active state
-unfoldable pub recordsOf : Words → Records
-recordsOf w = record { last = getD (w .head) 0 0; state = getD (w .head) 1 0; rules = rulesOf (w .counts) (w .places) }
+unfoldable pub recordsOf : Lent → Records
+recordsOf w = record { last = getD (w .head) lastWord 0; state = getD (w .head) activeWord 0; rules = rulesOf (w .counts) (w .places) }
 
--- and back
-abbrev pub placeWords : Place → List ℕ
-placeWords p = p .state ∷ p .quad .source ∷ p .quad .destination ∷ p .quad .ports ∷ p .age ∷ []
+-- ---- and back
 
-abbrev pub countWords : RuleRecord → List ℕ
-countWords x = x .level ∷ x .passed ∷ x .blocked ∷ []
+-- level, passed, blocked
+abbrev pub countRow : RuleRecord → List ℕ
+countRow x = x .level ∷ x .passed ∷ x .blocked ∷ []
 
-abbrev pub placesWords : RuleRecord → List (List ℕ)
-placesWords x = map placeWords (x .places)
+-- the places of one rule
+abbrev pub placeRows : RuleRecord → List (List ℕ)
+placeRows x = placesWords (x .places)
 
-unfoldable pub wordsOf : Records → Words
+-- the words of the records: the default has no row of places
+unfoldable pub wordsOf : Records → Lent
 wordsOf s = record {
   head = s .last ∷ s .state ∷ [];
-  counts = map countWords (s .rules);
-  places = map placesWords (take default (s .rules));
+  counts = map countRow (s .rules);
+  places = map placeRows (take default (s .rules));
 }
 
--- ---- the shape of the words, as the arrays that hold them have it
+-- ---- the shape of the words
 
-abbrev pub All : {A : Type 0} → (A → Type 0) → List A → Type 0
-All P [] = Unit {0}
-All P (x ∷ l) = P x × All P l
+-- as the arrays that hold them have it
+pub record Shaped (w : Lent) : Type 0 where
+  pub head : length (w .head) ≡ headSize
+  pub counts : Sized countRows (λ c. length c ≡ countSize) (w .counts)
+  pub places : Sized mostRules ShapedPlaces (w .places)
 
--- a row of n, each of its own shape
-abbrev pub Row : {A : Type 0} → ℕ → (A → Type 0) → List A → Type 0
-Row n P l = (length l ≡ n) × All P l
-
-pub record Shaped (w : Words) : Type 0 where
-  pub head : length (w .head) ≡ 2
-  pub counts : Row 65 (λ c. length c ≡ 3) (w .counts)
-  pub places : Row 64 (Row 8 (λ p. length p ≡ 5)) (w .places)
-
--- and of the records in such words: eight places for each rule, none for the default
+-- and of the records in such words: for each rule its places, which fit into words, none for the default
 pub record ShapedRecords (s : Records) : Type 0 where
-  pub rules : length (s .rules) ≡ 65
-  pub places : (i : ℕ) → i < default → length (recordAt s i .places) ≡ 8
+  pub rules : length (s .rules) ≡ countRows
+  pub places : (i : ℕ) → i < default → Sized mostPlaces Fits (recordAt s i .places)
   pub none : length (recordAt s default .places) ≡ 0

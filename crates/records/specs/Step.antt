@@ -1,6 +1,6 @@
 -- Fresh records, a switch of vehicle state, and what one frame does to the records. Document 01, 'The records' and 'One frame, in this order'.
 -- Assumes nothing.
-use Prim.Native.Nat.{ℕ, _-_}
+use Prim.Native.Nat.{ℕ, _-_, _<_, _≤_}
 use mathlib.Core.Bool.{cond}
 use mathlib.Core.List.{[], _∷_, _++_}
 use lib.ListN.{set}
@@ -8,17 +8,21 @@ use lib.Dec.{ltb}
 use Rattle.numbers.specs.Lists.{each, copies}
 use Rattle.table.specs.declared.Action.{Action}
 use Rattle.table.specs.declared.Table.{Table}
-use Rattle.table.specs.Table.{ruleAt, stateAt, rulesOf, isAllow}
-use Rattle.records.specs.Records.{free, RuleRecord, noRecord, Records, default, recordAt}
+use Rattle.table.specs.Table.{ruleAt, stateAt, rulesOf, trackingOf, isAllow}
+use Rattle.conversations.specs.Places.{free, mostPlaces}
+use Rattle.conversations.specs.Good.{placesIn}
+use Rattle.conversations.specs.declared.Turn.{Turn}
+use Rattle.table.specs.Table.{mostRules, mostStates}
+use Rattle.records.specs.Records.{RuleRecord, noRecord, Records, default, recordAt}
 use Rattle.records.specs.Rule.{aged, reacted, Reacted, settled, allowedByDefault, blockedByDefault}
-use Rattle.records.specs.declared.Segment.{Segment}
 
 -- "A fresh record takes a table and a start reading: state 0, all else empty or zero"
 abbrev pub freshRule : RuleRecord
-freshRule = record { level = 0; passed = 0; blocked = 0; places = copies 8 free }
+freshRule = record { level = 0; passed = 0; blocked = 0; places = copies mostPlaces free }
 
+-- 64 of them, and the default's
 unfoldable pub freshOf : ℕ → Records
-freshOf reading = record { last = reading; state = 0; rules = copies 64 freshRule ++ (noRecord ∷ []) }
+freshOf reading = record { last = reading; state = 0; rules = copies mostRules freshRule ++ (noRecord ∷ []) }
 
 -- "A switch of vehicle state changes only the active state"
 unfoldable pub switchedTo : ℕ → Records → Records
@@ -37,15 +41,24 @@ ticked t reading s = record {
 abbrev pub defaultVerdict : Action → ℕ
 defaultVerdict a = cond (isAllow a) allowedByDefault blockedByDefault
 
+-- steps 4 and 5 of the default
 abbrev pub defaulted : Action → RuleRecord → Reacted
 defaulted a x = settled x (defaultVerdict a) (x .level) (x .places)
 
 -- steps 3 to 5 of the decider at place d: a rule, or the default
-unfoldable pub reactedAt : Table → ℕ → Segment → ℕ → RuleRecord → Reacted
+unfoldable pub reactedAt : Table → ℕ → Turn → ℕ → RuleRecord → Reacted
 reactedAt t state g d x = cond (ltb d default) (reacted (ruleAt t d) g x) (defaulted (stateAt t state .default) x)
 
-abbrev pub reaction : Table → Segment → ℕ → Records → Reacted
+-- the same of the records: the decider's own, in the active state
+abbrev pub reaction : Table → Turn → ℕ → Records → Reacted
 reaction t g d s = reactedAt t (s .state) g d (recordAt s d)
 
-unfoldable pub acted : Table → Segment → ℕ → Records → Records
+-- the decider's record alone changes
+unfoldable pub acted : Table → Turn → ℕ → Records → Records
 acted t g d s = record { last = s .last; state = s .state; rules = set (s .rules) d (reaction t g d s .after) }
+
+-- what the decider's step asks: a place among the records, an active state that a table can have, and no more places of a rule than there are
+pub record MayAct (t : Table) (active d : ℕ) : Type 0 where
+  pub place : d ≤ default
+  pub state : active < mostStates
+  pub room : d < default → placesIn (trackingOf (ruleAt t d)) ≤ mostPlaces

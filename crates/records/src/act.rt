@@ -1,19 +1,22 @@
 // Steps 3 to 5 of the decider, a rule or the default.
 ghost use mathlib.Core.Path.{_≡_};
-ghost use mathlib.Core.List.{map, []};
-ghost use Prim.Native.Nat.{_<_, _≤_};
+ghost use mathlib.Core.List.{[]};
+ghost use Prim.Native.Nat.{_≤_};
 ghost use lib.ListN.{getD};
-ghost use Rattle.table.specs.Table.{ruleAt, bucketOf, trackingOf};
+ghost use Rattle.table.specs.Table.{bucketOf, trackingOf};
 ghost use Rattle.table.specs.Words.{ruleIn, tableIn};
-ghost use Rattle.records.specs.Records.{placeOf, ruleOf, recordsOf, words};
-ghost use Rattle.records.specs.Rule.{decided, reacted, trackedAs, reactedAs};
-ghost use Rattle.records.specs.Step.{defaultVerdict, defaulted, reaction, acted};
-ghost use Rattle.records.specs.Good.{placesIn};
+ghost use Rattle.conversations.specs.Places.{mostPlaces, placesOf};
+ghost use Rattle.conversations.specs.Good.{placesIn};
+ghost use Rattle.records.specs.Records.{activeWord, ruleOf, recordsOf, before, after};
+ghost use Rattle.records.specs.Rule.{decided, reacted, decidedAs, reactedAs};
+ghost use Rattle.records.specs.Step.{defaultVerdict, defaulted, reaction, acted, MayAct};
 use crate::rate::*;
 use crate::shape::*;
-use crate::track::*;
 use crate::verdict::Verdict;
 use crate::*;
+use conversations::RulePlaces;
+use conversations::Turn;
+use conversations::track::track;
 use table::Action;
 use table::Bucket;
 use table::Tracking;
@@ -27,9 +30,13 @@ use table::words::rule_action;
 use table::words::tracking;
 
 // Step 4, at the level raised.
-fn decide(r: &RuleWords, b: Bucket, g: Segment, level: u32, ps: &mut RowWords) -> Verdict
-    requires { ⌜ (b ≡ bucketOf (ruleIn (now r))) × (placesIn (trackingOf (ruleIn (now r))) ≤ 8) ⌝ }
-    ensures { λ v. ⌜ trackedAs (v .number) (now (ps .exit)) ≡ decided (ruleIn (now (r .entry))) g level (map placeOf (now (ps .entry))) ⌝ }
+fn decide(r: &RuleWords, b: Bucket, g: Turn, level: u32, ps: &mut RulePlaces) -> Verdict
+    requires bucket { ⌜ b ≡ bucketOf (ruleIn (now r)) ⌝ }
+    requires room { ⌜ placesIn (trackingOf (ruleIn (now r))) ≤ mostPlaces ⌝ }
+    ensures { λ v. ⌜
+        decidedAs (v .number) (now (ps .exit))
+        ≡ decided (ruleIn (now (r .entry))) g level (placesOf (now (ps .entry)))
+        ⌝ }
 {
     if !is_allow(rule_action(r)) {
         return Verdict::blocked_by_rule();
@@ -40,13 +47,16 @@ fn decide(r: &RuleWords, b: Bucket, g: Segment, level: u32, ps: &mut RowWords) -
     let k = tracking(r);
     match k {
         Tracking::Unset => Verdict::allowed(),
-        Tracking::Set(m) => track(m, g, ps),
+        Tracking::Set(m) => Verdict::of(track(m, g, ps)),
     }
 }
 
-fn react(r: &RuleWords, g: Segment, c: &mut CountWords, ps: &mut RowWords) -> Verdict
-    requires { ⌜ placesIn (trackingOf (ruleIn (now r))) ≤ 8 ⌝ }
-    ensures { λ v. ⌜ reactedAs (v .number) (now (c .exit)) (now (ps .exit)) ≡ reacted (ruleIn (now (r .entry))) g (ruleOf (now (c .entry)) (now (ps .entry))) ⌝ }
+fn react(r: &RuleWords, g: Turn, c: &mut CountWords, ps: &mut RulePlaces) -> Verdict
+    requires { ⌜ placesIn (trackingOf (ruleIn (now r))) ≤ mostPlaces ⌝ }
+    ensures { λ v. ⌜
+        reactedAs (v .number) (now (c .exit)) (now (ps .exit))
+        ≡ reacted (ruleIn (now (r .entry))) g (ruleOf (now (c .entry)) (now (ps .entry)))
+        ⌝ }
 {
     let b = bucket(r);
     let level = raise(b, c[LEVEL]);
@@ -75,17 +85,21 @@ fn default_verdict(a: Action) -> Verdict
 // Steps 3 to 5 of the decider at d.
 pub fn act(
     t: &TableWords,
-    g: Segment,
+    g: Turn,
     d: usize,
     head: &Head,
     counts: &mut Counts,
     places: &mut Places,
 ) -> Verdict
-    requires { ⌜ (d ≤ 64) × (getD (now head) 1 0 < 8) × (d < 64 → placesIn (trackingOf (ruleAt (tableIn (now t)) d)) ≤ 8) ⌝ }
-    ensures { λ v. ⌜ (v .number ≡ reaction (tableIn (now (t .entry))) g d (recordsOf (words (now (head .entry)) (now (counts .entry)) (now (places .entry)))) .verdict) × (recordsOf (words (now (head .entry)) (now (counts .exit)) (now (places .exit))) ≡ acted (tableIn (now (t .entry))) g d (recordsOf (words (now (head .entry)) (now (counts .entry)) (now (places .entry))))) ⌝ }
+    requires { ⌜ MayAct (tableIn (now t)) (getD (now head) activeWord 0) d ⌝ }
+    ensures verdict { λ v. ⌜ v .number ≡ reaction (tableIn (now (t .entry))) g d (recordsOf (before head counts places)) .verdict ⌝ }
+    ensures records { λ v. ⌜
+        recordsOf (after head counts places)
+        ≡ acted (tableIn (now (t .entry))) g d (recordsOf (before head counts places))
+        ⌝ }
 {
-    rows(*counts, *places);
-    words::rows(*t);
+    tell_rows(*counts, *places);
+    words::tell_table(*t);
     if d < DEFAULT {
         react(&t[d], g, &mut counts[d], &mut places[d])
     } else {

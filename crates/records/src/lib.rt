@@ -3,26 +3,30 @@ pub mod act;
 pub mod fresh;
 pub mod good;
 mod rate;
-mod scan;
 pub mod shape;
 pub mod time;
-pub mod track;
 pub mod verdict;
 
+use conversations::RulePlaces;
+use table::RULES;
+
 // Last reading, active state.
-pub type Head = [u64; 2];
-// Per rule level, passed, blocked; row 64 is the default's.
-pub type Counts = [CountWords; 65];
-// Per rule and place: state, source, destination, both ports, age.
-pub type Places = [RowWords; 64];
+pub type Head = [u64; HEAD_WORDS];
+// Per rule level, passed, blocked; the last row is the default's.
+pub type Counts = [CountWords; COUNT_ROWS];
+// Per rule its places for conversations; the default has none.
+pub type Places = [RulePlaces; RULES];
 
-pub type CountWords = [u32; 3];
+pub type CountWords = [u32; COUNT_WORDS];
 
-pub type PlaceWords = [u32; 5];
+// How many: words of the head, words of a row of counts, rows of counts.
+pub const HEAD_WORDS: usize = 2;
 
-pub type RowWords = [PlaceWords; 8];
+pub const COUNT_WORDS: usize = 3;
 
-// Where each word stands.
+pub const COUNT_ROWS: usize = RULES + 1;
+
+// Where each word stands, and the default's row.
 pub const LAST: usize = 0;
 
 pub const ACTIVE: usize = 1;
@@ -33,17 +37,7 @@ pub const PASSED: usize = 1;
 
 pub const BLOCKED: usize = 2;
 
-pub const DEFAULT: usize = 64;
-
-pub const STATE: usize = 0;
-
-pub const SOURCE: usize = 1;
-
-pub const DESTINATION: usize = 2;
-
-pub const PORTS: usize = 3;
-
-pub const AGE: usize = 4;
+pub const DEFAULT: usize = RULES;
 
 // A level is in thousandths of a frame. Levels and counts stop here.
 pub const FRAME: u32 = 1000;
@@ -51,38 +45,3 @@ pub const FRAME: u32 = 1000;
 pub const LEVEL_MOST: u32 = 4294967000;
 
 pub const COUNT_MOST: u32 = 4294967295;
-
-// A conversation: the addresses and both ports, source x 65,536 + destination, as this direction shows them.
-pub struct Quad {
-    pub source: u32,
-    pub destination: u32,
-    pub ports: u32,
-}
-
-// What the four flags count as.
-pub enum FlagKind {
-    Wrong,
-    Open,
-    Carry,
-    End,
-    Reset,
-}
-
-// What tracking looks at in a frame.
-pub struct Segment {
-    pub quad: Quad,
-    pub kind: FlagKind,
-}
-
-pub enum Phase {
-    Opening,
-    Running,
-    Closing,
-}
-
-// A step of the table: not allowed, the conversation removed, or its next state.
-pub enum Next {
-    No,
-    Removed,
-    To(Phase),
-}

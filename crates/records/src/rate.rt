@@ -3,6 +3,7 @@ ghost use mathlib.Core.Path.{_≡_};
 ghost use mathlib.Core.Bool.{not};
 ghost use mathlib.Core.List.{[], _∷_};
 ghost use lib.ListN.{getD};
+ghost use Rattle.records.specs.Records.{passedWord, blockedWord};
 ghost use Rattle.records.specs.Rule.{raised, over, counted, passes};
 use crate::verdict::Verdict;
 use crate::*;
@@ -49,7 +50,13 @@ pub(crate) fn count(is: bool, n: u32) -> u32
 
 // The decider's words after its verdict.
 pub(crate) fn settle(v: Verdict, level: u32, c: &mut CountWords)
-    ensures { λ r. ⌜ now (c .exit) ≡ level ∷ counted (passes (v .number)) (getD (now (c .entry)) 1 0) ∷ counted (not (passes (v .number))) (getD (now (c .entry)) 2 0) ∷ [] ⌝ }
+    ensures { λ r. ⌜
+        now (c .exit)
+        ≡ level
+        ∷ counted (passes (v .number)) (getD (now (c .entry)) passedWord 0)
+        ∷ counted (not (passes (v .number))) (getD (now (c .entry)) blockedWord 0)
+        ∷ []
+        ⌝ }
 {
     let is = v.passes();
     let p = count(is, c[PASSED]);

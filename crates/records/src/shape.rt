@@ -1,30 +1,24 @@
-// Words behind a reference have their number: a call by value tells, and no code is left of it.
+// Words behind a reference have their number: a call by value tells the number; no code is left of it.
 ghost use mathlib.Core.Path.{_≡_};
 ghost use lib.ListN.{length};
-ghost use Rattle.records.specs.Records.{Shaped, words};
+ghost use Rattle.table.specs.Table.{mostRules};
+ghost use Rattle.records.specs.Records.{countRows, countSize, headSize, Shaped, lent};
 use crate::*;
 
-pub(crate) fn five(w: PlaceWords)
-    ensures { λ r. ⌜ length w ≡ 5 ⌝ }
+pub(crate) fn tell_counts(w: CountWords)
+    ensures { λ r. ⌜ length w ≡ countSize ⌝ }
 {}
 
-pub(crate) fn eight(w: RowWords)
-    ensures { λ r. ⌜ length w ≡ 8 ⌝ }
+pub(crate) fn tell_head(w: Head)
+    ensures { λ r. ⌜ length w ≡ headSize ⌝ }
 {}
 
-pub(crate) fn three(w: CountWords)
-    ensures { λ r. ⌜ length w ≡ 3 ⌝ }
-{}
-
-pub(crate) fn two(w: Head)
-    ensures { λ r. ⌜ length w ≡ 2 ⌝ }
-{}
-
-pub(crate) fn rows(c: Counts, p: Places)
-    ensures { λ r. ⌜ (length c ≡ 65) × (length p ≡ 64) ⌝ }
+pub(crate) fn tell_rows(c: Counts, p: Places)
+    ensures counts { λ r. ⌜ length c ≡ countRows ⌝ }
+    ensures places { λ r. ⌜ length p ≡ mostRules ⌝ }
 {}
 
 // The shape of all the words.
 pub fn shape(head: Head, counts: Counts, places: Places)
-    ensures { λ r. ⌜ Shaped (words head counts places) ⌝ }
+    ensures { λ r. ⌜ Shaped (lent head counts places) ⌝ }
 {}

@@ -1,18 +1,19 @@
 // Time passes: elapsed, levels that fall, ages that rise.
 ghost use mathlib.Core.Path.{_≡_};
-ghost use mathlib.Core.Bool.{true};
-ghost use mathlib.Core.List.{map};
 ghost use Prim.Native.Nat.{_-_, _*_, _≤_};
 ghost use lib.ListN.{getD, set};
 ghost use Rattle.numbers.specs.Lists.{each};
 ghost use Rattle.table.specs.Table.{rulesOf as tableRules};
 ghost use Rattle.table.specs.Words.{ruleIn, tableIn};
-ghost use Rattle.records.specs.Records.{placeOf, ruleOf, rulesOf, recordsOf, words};
-ghost use Rattle.records.specs.Rule.{drained, agedPlace, aged};
+ghost use Rattle.table.specs.Table.{mostRules};
+ghost use Rattle.records.specs.Records.{levelWord, ruleOf, rulesOf, recordsOf, lent, before, after};
+ghost use Rattle.records.specs.Rule.{drained, aged};
 ghost use Rattle.records.specs.Step.{ticked};
-ghost use Rattle.records.specs.Good.{recordsGood};
+ghost use Rattle.records.specs.Good.{MayTick};
 use crate::shape::*;
 use crate::*;
+use conversations::RulePlaces;
+use conversations::ageing::age_places;
 use table::Bucket;
 use table::Tracking;
 use table::words;
@@ -45,38 +46,8 @@ fn drain(refill: u16, elapsed: u64, level: u32) -> u32
     (l - fall) as u32
 }
 
-// A free place is skipped.
-fn age_place(limit: u32, elapsed: u64, p: &mut PlaceWords)
-    ensures { λ r. ⌜ placeOf (now (p .exit)) ≡ agedPlace limit elapsed (placeOf (now (p .entry))) ⌝ }
-{
-    if p[STATE] == 0 {
-        return;
-    }
-    five(*p);
-    if elapsed < numbers::wide64(limit) {
-        let e = elapsed as u32;
-        let a = p[AGE];
-        if a < limit - e {
-            p[AGE] = a + e;
-            return;
-        }
-    }
-    *p = [0; 5];
-}
-
-fn age_places(limit: u32, elapsed: u64, ps: &mut RowWords)
-    ensures { λ r. ⌜ map placeOf (now (ps .exit)) ≡ map (agedPlace limit elapsed) (map placeOf (now (ps .entry))) ⌝ }
-{
-    eight(*ps);
-    let mut j: usize = 0;
-    while j < 8 {
-        age_place(limit, elapsed, &mut ps[j]);
-        j += 1;
-    }
-}
-
 fn age_level(b: Bucket, elapsed: u64, c: &mut CountWords)
-    ensures { λ r. ⌜ now (c .exit) ≡ set (now (c .entry)) 0 (drained b elapsed (getD (now (c .entry)) 0 0)) ⌝ }
+    ensures { λ r. ⌜ now (c .exit) ≡ set (now (c .entry)) levelWord (drained b elapsed (getD (now (c .entry)) levelWord 0)) ⌝ }
 {
     match b {
         Bucket::Unset => {}
@@ -87,12 +58,15 @@ fn age_level(b: Bucket, elapsed: u64, c: &mut CountWords)
 }
 
 // A rule without bucket and tracking is skipped.
-fn age_rule(r: &RuleWords, elapsed: u64, c: &mut CountWords, ps: &mut RowWords)
-    ensures { λ x. ⌜ ruleOf (now (c .exit)) (now (ps .exit)) ≡ aged elapsed (ruleIn (now (r .entry))) (ruleOf (now (c .entry)) (now (ps .entry))) ⌝ }
+fn age_rule(r: &RuleWords, elapsed: u64, c: &mut CountWords, ps: &mut RulePlaces)
+    ensures { λ x. ⌜
+        ruleOf (now (c .exit)) (now (ps .exit))
+        ≡ aged elapsed (ruleIn (now (r .entry))) (ruleOf (now (c .entry)) (now (ps .entry)))
+        ⌝ }
 {
     let b = bucket(r);
     let k = tracking(r);
-    three(*c);
+    tell_counts(*c);
     age_level(b, elapsed, c);
     match k {
         Tracking::Unset => {}
@@ -101,11 +75,14 @@ fn age_rule(r: &RuleWords, elapsed: u64, c: &mut CountWords, ps: &mut RowWords)
 }
 
 fn age_rules(t: &TableWords, elapsed: u64, counts: &mut Counts, places: &mut Places)
-    requires { ⌜ tableIn (now t) .rulecount ≤ 64 ⌝ }
-    ensures { λ r. ⌜ rulesOf (now (counts .exit)) (now (places .exit)) ≡ each (aged elapsed) (tableRules (tableIn (now (t .entry)))) (rulesOf (now (counts .entry)) (now (places .entry))) ⌝ }
+    requires { ⌜ tableIn (now t) .rulecount ≤ mostRules ⌝ }
+    ensures { λ r. ⌜
+        rulesOf (now (counts .exit)) (now (places .exit))
+        ≡ each (aged elapsed) (tableRules (tableIn (now (t .entry)))) (rulesOf (now (counts .entry)) (now (places .entry)))
+        ⌝ }
 {
-    rows(*counts, *places);
-    words::rows(*t);
+    tell_rows(*counts, *places);
+    words::tell_table(*t);
     let n = words::rulecount(t);
     let mut i: usize = 0;
     while i < n {
@@ -116,10 +93,13 @@ fn age_rules(t: &TableWords, elapsed: u64, counts: &mut Counts, places: &mut Pla
 
 // Steps 1 and 2. Where no time has passed, good records stay as they are.
 pub fn tick(t: &TableWords, reading: u64, head: &mut Head, counts: &mut Counts, places: &mut Places)
-    requires { ⌜ (tableIn (now t) .rulecount ≤ 64) × (recordsGood (tableIn (now t)) (recordsOf (words (now head) (now counts) (now places))) ≡ true) ⌝ }
-    ensures { λ r. ⌜ recordsOf (words (now (head .exit)) (now (counts .exit)) (now (places .exit))) ≡ ticked (tableIn (now (t .entry))) reading (recordsOf (words (now (head .entry)) (now (counts .entry)) (now (places .entry)))) ⌝ }
+    requires { ⌜ MayTick (tableIn (now t)) (recordsOf (lent (now head) (now counts) (now places))) ⌝ }
+    ensures { λ r. ⌜
+        recordsOf (after head counts places)
+        ≡ ticked (tableIn (now (t .entry))) reading (recordsOf (before head counts places))
+        ⌝ }
 {
-    two(*head);
+    tell_head(*head);
     let e = elapsed_of(reading, head[LAST]);
     head[LAST] = reading;
     if e == 0 {

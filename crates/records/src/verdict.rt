@@ -9,7 +9,9 @@ ghost use Rattle.records.specs.Rule.{
   noPlaceFree,
   blockedByDefault,
   passes,
+  verdictOf,
 };
+use conversations::Progress;
 
 pub struct Verdict {
     pub number: u8,
@@ -83,6 +85,17 @@ impl Verdict {
     {
         Verdict {
             number: Verdict::BLOCKED_BY_DEFAULT,
+        }
+    }
+
+    // What tracking says.
+    pub(crate) fn of(p: Progress) -> Verdict
+        ensures { λ r. ⌜ r .number ≡ verdictOf p ⌝ }
+    {
+        match p {
+            Progress::Holds => Verdict::allowed(),
+            Progress::WrongStep => Verdict::wrong_step(),
+            Progress::NoPlaceFree => Verdict::no_place_free(),
         }
     }
 

@@ -1,64 +1,103 @@
 -- One frame judged, for a good table and a good record: document 01, 'One frame, in this order' and 'Verdicts, events, refusals'.
 -- Assumes nothing.
-use Prim.Native.Nat.{ℕ, _+_, _*_}
+use Prim.Native.Nat.{ℕ, _+_, _*_, _≤_}
 use mathlib.Core.Path.{_≡_}
-use mathlib.Core.List.{List, [], _++_}
-use mathlib.Core.Bool.{cond}
-use lib.ListN.{length, drop}
+use mathlib.Core.List.{List, []}
+use mathlib.Core.Bool.{true, cond}
+use lib.ListN.{length}
 use lib.Dec.{ltb, eqb}
 use Rattle.layers.specs.declared.Ip.{Ip}
 use Rattle.layers.specs.declared.Ip.the-variants as ip
 use Rattle.layers.specs.declared.Transport.{Transport}
 use Rattle.layers.specs.declared.Transport.the-variants as transport
+use Rattle.layers.specs.declared.Shown.the-variants as shown
+use Rattle.layers.specs.Layers.{shownOf}
 use Rattle.layers.specs.declared.Layers.{Layers}
+use Rattle.layers.specs.Seen.{Seen, seen}
 use Rattle.table.specs.declared.Table.{Table}
+use Rattle.faults.specs.declared.Fault.the-variants as fault
 use Rattle.table.specs.Table.{ruleAt}
+use Rattle.faults.specs.Faults.{faultOf}
 use Rattle.matching.specs.Matching.{deciderOf}
 use Rattle.matching.specs.Best.{bestOf}
-use Rattle.records.specs.declared.Segment.{Segment}
-use Rattle.records.specs.declared.FlagKind.the-variants as kind
-use Rattle.records.specs.Records.{Words, Records, default, wordsOf}
-use Rattle.records.specs.Rule.{kindOf, overRate, wrongStep, noPlaceFree, blockedByDefault}
+use Rattle.conversations.specs.declared.Turn.{Turn}
+use Rattle.conversations.specs.declared.FlagKind.the-variants as kind
+use Rattle.records.specs.Records.{Lent, Records, default, recordsOf, wordsOf}
+use Rattle.conversations.specs.Places.{ipv4Quad}
+use Rattle.conversations.specs.Tracking.{kindOf}
+use Rattle.records.specs.Rule.{overRate, wrongStep, noPlaceFree, blockedByDefault}
 use Rattle.records.specs.Step.{ticked, reaction, acted}
-use Rattle.events.specs.Events.{eventBytes, mismatchOf}
+use Rattle.records.specs.Good.{recordsGood}
+use Rattle.events.specs.Events.{eventBytes, mismatchOf, written, eventRoom}
 use Rattle.events.specs.declared.Event.the-variants as event
+use Rattle.steps.specs.declared.Answer.{Answer}
+use Rattle.steps.specs.declared.Report.{Report}
+use Rattle.steps.specs.declared.Report.the-variants as report
 
 -- what arrives: a clock reading, and the frame's bytes
 pub record Arrival : Type 0 where
   pub reading : ℕ
   pub bytes : List ℕ
 
--- what tracking looks at: addresses, ports and flags of a TCP segment; nothing that it knows where there is none
-abbrev pub noSegment : Segment
-noSegment = record { quad = record { source = 0; destination = 0; ports = 0 }; kind = kind.Wrong }
+-- made of its parts
+abbrev pub arrival : ℕ → List ℕ → Arrival
+arrival reading bytes = record { reading = reading; bytes = bytes }
 
-abbrev pub segmentOf : Ip → Transport → Segment
-segmentOf (ip.V4 p) (transport.Tcp t) = record {
-  quad = record { source = p .source; destination = p .destination; ports = t .source * 65536 + t .destination };
+-- what is seen of it, by the layers that it shows
+abbrev pub seenOf : Arrival → Layers → Seen
+seenOf a l = seen (a .bytes) l
+
+-- what tracking looks at: addresses, ports and flags of a TCP segment; nothing that it knows where there is none
+abbrev pub noTurn : Turn
+noTurn = record { quad = record { source = 0; destination = 0; ports = 0 }; kind = kind.Wrong }
+
+-- by the layers that tell it
+abbrev pub turnIn : Ip → Transport → Turn
+turnIn (ip.V4 p) (transport.Tcp t) = record {
+  quad = ipv4Quad (p .source) (p .destination) (t .source * 65536 + t .destination);
   kind = kindOf (t .fin) (t .syn) (t .rst) (t .ack);
 }
-segmentOf (ip.V4 p) transport.Absent = noSegment
-segmentOf (ip.V4 p) (transport.Udp u) = noSegment
-segmentOf ip.Absent t = noSegment
+turnIn (ip.V4 p) transport.Absent = noTurn
+turnIn (ip.V4 p) (transport.Udp u) = noTurn
+turnIn ip.Absent t = noTurn
+
+-- of what is seen of a frame
+abbrev pub turnOf : Seen → Turn
+turnOf x = turnIn (x .layers .ip) (x .layers .transport)
 
 -- "the deciding rule's id (65,535 for the default)"
 abbrev pub idAt : Table → ℕ → ℕ
 idAt t d = cond (ltb d default) (ruleAt t d .id) 65535
 
--- "6 gives the mismatch event of the best fit"
-abbrev pub bestEvent : Table → ℕ → List ℕ → Layers → List ℕ
-bestEvent t state s l =
-    let best = bestOf t state s l in
-    eventBytes (mismatchOf (ruleAt t (best .place)) (best .layer)) (idAt t (best .place)) s l
+-- ---- the event
 
--- "3 gives event 64 and 4 gives 63. 5 gives 001's event for too many TCP connections"; "Verdicts 0, 1 and 2 have no event"
-unfoldable pub eventOf : Table → ℕ → List ℕ → Layers → ℕ → ℕ → List ℕ
-eventOf t state s l d verdict =
-    cond (eqb verdict overRate) (eventBytes event.Ratelimit (idAt t d) s l)
-    (cond (eqb verdict wrongStep) (eventBytes event.StateTransition (idAt t d) s l)
-    (cond (eqb verdict noPlaceFree) (eventBytes event.MaxConnections (idAt t d) s l)
-    (cond (eqb verdict blockedByDefault) (bestEvent t state s l)
-    [])))
+-- "3 gives event 64 and 4 gives 63. 5 gives 001's event for too many TCP connections. 6 gives the mismatch event of the best fit";
+-- "Verdicts 0, 1 and 2 have no event"
+unfoldable pub eventFor : ℕ → Report
+eventFor verdict =
+    cond (eqb verdict overRate) (report.Own event.Ratelimit)
+    (cond (eqb verdict wrongStep) (report.Own event.StateTransition)
+    (cond (eqb verdict noPlaceFree) (report.Own event.MaxConnections)
+    (cond (eqb verdict blockedByDefault) report.BestFit
+    report.Nothing)))
+
+-- the best fit's event names its rule, "65,535" where no rule is active
+abbrev pub bestEvent : Table → ℕ → Seen → List ℕ
+bestEvent t state x =
+    let best = bestOf t state x in
+    eventBytes (mismatchOf (ruleAt t (best .place)) (best .layer)) (idAt t (best .place)) x
+
+-- the bytes of what is reported of a frame that d decides
+abbrev pub reported : Table → ℕ → Seen → ℕ → Report → List ℕ
+reported t state x d report.Nothing = []
+reported t state x d (report.Own e) = eventBytes e (idAt t d) x
+reported t state x d report.BestFit = bestEvent t state x
+
+-- the event's bytes of a verdict that d gave
+abbrev pub eventOf : Table → ℕ → Seen → ℕ → ℕ → List ℕ
+eventOf t state x d verdict = reported t state x d (eventFor verdict)
+
+-- ---- the step
 
 -- verdict, rule id, the event's bytes, and the records after the frame
 pub record Outcome : Type 0 where
@@ -67,36 +106,37 @@ pub record Outcome : Type 0 where
   pub event : List ℕ
   pub records : Records
 
--- steps 1 to 5 for an arrival that shows the layers l
-unfoldable pub outcomeOf : Table → Records → Arrival → Layers → Outcome
-outcomeOf t s a l =
-    let d = deciderOf t (s .state) (a .bytes) l in
-    let g = segmentOf (l .ip) (l .transport) in
-    let u = ticked t (a .reading) s in
-    let v = reaction t g d u .verdict in
+-- steps 1 to 5 at a reading
+unfoldable pub outcomeOf : Table → Records → ℕ → Seen → Outcome
+outcomeOf t s reading x =
+    let d = deciderOf t (s .state) x in
+    let u = ticked t reading s in
+    let v = reaction t (turnOf x) d u .verdict in
     record {
       verdict = v;
       rule = idAt t d;
-      event = eventOf t (s .state) (a .bytes) l d v;
-      records = acted t g d u;
+      event = eventOf t (s .state) x d v;
+      records = acted t (turnOf x) d u;
     }
 
--- "a judged call writes only the event's length of bytes"
-abbrev pub written : List ℕ → List ℕ → List ℕ
-written event space = event ++ drop (length event) space
-
--- an event at the start of a space: how many bytes were written, and the space after it
-pub record Wrote (event space after : List ℕ) (n : ℕ) : Type 0 where
-  pub count : n ≡ length event
-  pub left : after ≡ written event space
+-- what a step asks: a good table, a good record, the layers that the frame shows, and space for an event
+pub record Ready (t : Table) (w : Lent) (x : Seen) (space : List ℕ) : Type 0 where
+  pub table : faultOf t ≡ fault.Good
+  pub records : recordsGood t (recordsOf w) ≡ true
+  pub shows : shownOf (x .bytes) ≡ shown.Shows (x .layers)
+  pub room : eventRoom ≤ length space
 
 -- what a judged frame leaves: "verdict, the deciding rule's id and event length", the words and the event space
 pub record Stepped : Type 0 where
   pub verdict : ℕ
   pub rule : ℕ
   pub length : ℕ
-  pub words : Words
+  pub words : Lent
   pub space : List ℕ
+
+-- of an answer, with the words and the space as the call leaves them; and of an outcome
+abbrev pub stepped : Answer → Lent → List ℕ → Stepped
+stepped a w space = record { verdict = a .verdict .number; rule = a .rule; length = a .length; words = w; space = space }
 
 abbrev pub steppedAs : Outcome → List ℕ → Stepped
 steppedAs o space = record {

@@ -1,27 +1,32 @@
 // One frame judged for a good table and a good record, with nothing checked again.
 ghost use mathlib.Core.Path.{_≡_};
-ghost use mathlib.Core.Bool.{true};
 ghost use Prim.Native.Nat.{_≤_};
 ghost use lib.ListN.{length};
 ghost use Rattle.layers.specs.Inside.{Inside};
-ghost use Rattle.layers.specs.Layers.{shownOf};
-ghost use Rattle.layers.specs.declared.Shown.the-variants as shown;
-ghost use Rattle.table.specs.declared.Fault.the-variants as fault;
-ghost use Rattle.table.specs.Table.{faultOf};
+ghost use Rattle.layers.specs.Layers.{least};
+ghost use Rattle.layers.specs.Seen.{seen};
+ghost use Rattle.table.specs.Table.{mostRules};
 ghost use Rattle.table.specs.Words.{tableIn};
 ghost use Rattle.matching.specs.Best.{bestOf};
-ghost use Rattle.records.specs.Records.{recordsOf, words};
-ghost use Rattle.records.specs.Good.{recordsGood};
+ghost use Rattle.records.specs.Records.{recordsOf, lent, before, after};
+ghost use Rattle.events.specs.Events.{eventRoom, Wrote};
 ghost use Rattle.steps.specs.Steps.{
-  noSegment,
-  segmentOf,
+  noTurn,
+  turnIn,
   idAt,
+  eventFor,
   bestEvent,
   eventOf,
   outcomeOf,
-  Wrote,
+  Ready,
+  stepped,
   steppedAs,
 };
+use conversations::FlagKind;
+use conversations::Quad;
+use conversations::Turn;
+use conversations::place::ipv4_quad;
+use conversations::track::flag_kind;
 use events::Event;
 use events::mismatch;
 use events::write;
@@ -34,19 +39,15 @@ use numbers::wide32;
 use records::ACTIVE;
 use records::Counts;
 use records::DEFAULT;
-use records::FlagKind;
 use records::Head;
 use records::Places;
-use records::Quad;
-use records::Segment;
 use records::act::act;
 use records::shape::shape;
 use records::time::tick;
-use records::track::flag_kind;
 use records::verdict::Verdict;
 use table::words::TableWords;
 use table::words::id;
-use table::words::rows;
+use table::words::tell_table;
 
 // "The answer is verdict, the deciding rule's id (65,535 for the default) and event length".
 pub struct Answer {
@@ -60,10 +61,17 @@ impl Answer {
     pub const NO_RULE: u16 = 65535;
 }
 
-fn no_segment() -> Segment
-    ensures { λ r. ⌜ r ≡ noSegment ⌝ }
+// What a verdict reports: nothing, an event of the decider, or the mismatch of the best fit.
+pub enum Report {
+    Nothing,
+    Own(Event),
+    BestFit,
+}
+
+fn no_turn() -> Turn
+    ensures { λ r. ⌜ r ≡ noTurn ⌝ }
 {
-    Segment {
+    Turn {
         quad: Quad {
             source: 0,
             destination: 0,
@@ -74,21 +82,21 @@ fn no_segment() -> Segment
 }
 
 // What tracking looks at: addresses, ports and flags of a TCP segment.
-pub(crate) fn segment(ip: Ip, t: Transport) -> Segment
-    ensures { λ r. ⌜ r ≡ segmentOf ip t ⌝ }
+pub(crate) fn turn(ip: Ip, t: Transport) -> Turn
+    ensures { λ r. ⌜ r ≡ turnIn ip t ⌝ }
 {
     let Ip::V4(p) = ip else {
-        return no_segment();
+        return no_turn();
     };
     match t {
-        Transport::Absent => no_segment(),
-        Transport::Udp(_) => no_segment(),
-        Transport::Tcp(s) => Segment {
-            quad: Quad {
-                source: p.source,
-                destination: p.destination,
-                ports: wide32(s.source) * 65536 + wide32(s.destination),
-            },
+        Transport::Absent => no_turn(),
+        Transport::Udp(_) => no_turn(),
+        Transport::Tcp(s) => Turn {
+            quad: ipv4_quad(
+                p.source,
+                p.destination,
+                wide32(s.source) * 65536 + wide32(s.destination),
+            ),
             kind: flag_kind(s.fin, s.syn, s.rst, s.ack),
         },
     }
@@ -97,12 +105,31 @@ pub(crate) fn segment(ip: Ip, t: Transport) -> Segment
 fn id_at(t: &TableWords, d: usize) -> u16
     ensures { λ r. ⌜ r ≡ idAt (tableIn (now (t .entry))) d ⌝ }
 {
-    rows(*t);
+    tell_table(*t);
     if d < DEFAULT {
         id(&t[d])
     } else {
         Answer::NO_RULE
     }
+}
+
+// Verdicts 0, 1 and 2 have no event.
+fn event_for(v: Verdict) -> Report
+    ensures { λ r. ⌜ r ≡ eventFor (v .number) ⌝ }
+{
+    if v.number == Verdict::OVER_RATE {
+        return Report::Own(Event::Ratelimit);
+    }
+    if v.number == Verdict::WRONG_STEP {
+        return Report::Own(Event::StateTransition);
+    }
+    if v.number == Verdict::NO_PLACE_FREE {
+        return Report::Own(Event::MaxConnections);
+    }
+    if v.number == Verdict::BLOCKED_BY_DEFAULT {
+        return Report::BestFit;
+    }
+    Report::Nothing
 }
 
 // The mismatch event of the best fit. With no active rule: link and 65,535.
@@ -114,13 +141,16 @@ fn write_best(
     l: Layers,
     space: &mut [u8],
 ) -> usize
-    requires { ⌜ (tableIn (now t) .rulecount ≤ 64) × (best ≡ bestOf (tableIn (now t)) state (now frame) l) ⌝ }
-    requires { ⌜ Inside (now frame) l ⌝ }
-    requires { ⌜ 14 ≤ length (now frame) ⌝ }
-    requires { ⌜ 256 ≤ length (now space) ⌝ }
-    ensures { λ r. ⌜ Wrote (bestEvent (tableIn (now (t .entry))) state (now (frame .entry)) l) (now (space .entry)) (now (space .exit)) r ⌝ }
+    requires rules { ⌜ tableIn (now t) .rulecount ≤ mostRules ⌝ }
+    requires best { ⌜ best ≡ bestOf (tableIn (now t)) state (seen (now frame) l) ⌝ }
+    requires inside { ⌜ Inside (now frame) l ⌝ }
+    requires long { ⌜ least ≤ length (now frame) ⌝ }
+    requires room { ⌜ eventRoom ≤ length (now space) ⌝ }
+    ensures { λ r. ⌜
+        Wrote (bestEvent (tableIn (now (t .entry))) state (seen (now (frame .entry)) l)) (now (space .entry)) (now (space .exit)) r
+        ⌝ }
 {
-    rows(*t);
+    tell_table(*t);
     let place = best.place;
     if place < DEFAULT {
         return write(
@@ -134,7 +164,7 @@ fn write_best(
     write(Event::LinkMismatch, Answer::NO_RULE, frame, l, space)
 }
 
-// The event of a verdict, at the start of the space. Verdicts 0, 1 and 2 have none.
+// The event of a verdict, at the start of the space.
 fn write_event(
     t: &TableWords,
     state: usize,
@@ -145,25 +175,21 @@ fn write_event(
     v: Verdict,
     space: &mut [u8],
 ) -> usize
-    requires { ⌜ (tableIn (now t) .rulecount ≤ 64) × (best ≡ bestOf (tableIn (now t)) state (now frame) l) ⌝ }
-    requires { ⌜ Inside (now frame) l ⌝ }
-    requires { ⌜ 14 ≤ length (now frame) ⌝ }
-    requires { ⌜ 256 ≤ length (now space) ⌝ }
-    ensures { λ r. ⌜ Wrote (eventOf (tableIn (now (t .entry))) state (now (frame .entry)) l d (v .number)) (now (space .entry)) (now (space .exit)) r ⌝ }
+    requires rules { ⌜ tableIn (now t) .rulecount ≤ mostRules ⌝ }
+    requires best { ⌜ best ≡ bestOf (tableIn (now t)) state (seen (now frame) l) ⌝ }
+    requires inside { ⌜ Inside (now frame) l ⌝ }
+    requires long { ⌜ least ≤ length (now frame) ⌝ }
+    requires room { ⌜ eventRoom ≤ length (now space) ⌝ }
+    ensures { λ r. ⌜
+        Wrote (eventOf (tableIn (now (t .entry))) state (seen (now (frame .entry)) l) d (v .number)) (now (space .entry)) (now (space .exit)) r
+        ⌝ }
 {
-    if v.number == Verdict::OVER_RATE {
-        return write(Event::Ratelimit, id_at(t, d), frame, l, space);
+    let report = event_for(v);
+    match report {
+        Report::Nothing => 0,
+        Report::Own(e) => write(e, id_at(t, d), frame, l, space),
+        Report::BestFit => write_best(t, state, best, frame, l, space),
     }
-    if v.number == Verdict::WRONG_STEP {
-        return write(Event::StateTransition, id_at(t, d), frame, l, space);
-    }
-    if v.number == Verdict::NO_PLACE_FREE {
-        return write(Event::MaxConnections, id_at(t, d), frame, l, space);
-    }
-    if v.number == Verdict::BLOCKED_BY_DEFAULT {
-        return write_best(t, state, best, frame, l, space);
-    }
-    0
 }
 
 // Steps 1 to 5, and the event.
@@ -177,17 +203,20 @@ pub fn step(
     places: &mut Places,
     space: &mut [u8],
 ) -> Answer
-    requires { ⌜ faultOf (tableIn (now t)) ≡ fault.Good ⌝ }
-    requires { ⌜ recordsGood (tableIn (now t)) (recordsOf (words (now head) (now counts) (now places))) ≡ true ⌝ }
-    requires { ⌜ shownOf (now frame) ≡ shown.Shows l ⌝ }
-    requires { ⌜ 256 ≤ length (now space) ⌝ }
-    ensures { λ r. ⌜ record { verdict = r .verdict .number; rule = r .rule; length = r .length; words = words (now (head .exit)) (now (counts .exit)) (now (places .exit)); space = now (space .exit) } ≡ steppedAs (outcomeOf (tableIn (now (t .entry))) (recordsOf (words (now (head .entry)) (now (counts .entry)) (now (places .entry)))) (record { reading = reading; bytes = now (frame .entry) }) l) (now (space .entry)) ⌝ }
-    ensures { λ r. ⌜ recordsOf (words (now (head .exit)) (now (counts .exit)) (now (places .exit))) ≡ outcomeOf (tableIn (now (t .entry))) (recordsOf (words (now (head .entry)) (now (counts .entry)) (now (places .entry)))) (record { reading = reading; bytes = now (frame .entry) }) l .records ⌝ }
+    requires { ⌜ Ready (tableIn (now t)) (lent (now head) (now counts) (now places)) (seen (now frame) l) (now space) ⌝ }
+    ensures outcome { λ r. ⌜
+        stepped r (after head counts places) (now (space .exit))
+        ≡ steppedAs (outcomeOf (tableIn (now (t .entry))) (recordsOf (before head counts places)) reading (seen (now (frame .entry)) l)) (now (space .entry))
+        ⌝ }
+    ensures records { λ r. ⌜
+        recordsOf (after head counts places)
+        ≡ outcomeOf (tableIn (now (t .entry))) (recordsOf (before head counts places)) reading (seen (now (frame .entry)) l) .records
+        ⌝ }
 {
     let state = head[ACTIVE] as usize;
     let ip = l.ip;
     let transport = l.transport;
-    let g = segment(ip, transport);
+    let g = turn(ip, transport);
     let decision = decide(t, state, frame, l);
     let best = decision.best;
     let d = decision.decider;

@@ -5,20 +5,22 @@ use mathlib.Core.Path.{_≡_, refl, sym, ap, ap₂, subst, _∙_}
 use mathlib.Core.List.{List, [], _∷_, map}
 use lib.ListN.{length}
 use Rattle.numbers.specs.Lists.{each}
+use Rattle.layers.specs.Seen.{seen}
 use Rattle.layers.specs.declared.Layers.{Layers}
 use Rattle.table.specs.declared.Table.{Table}
 use Rattle.table.specs.Table.{rulesOf}
 use Rattle.matching.specs.Matching.{deciderOf}
-use Rattle.records.specs.declared.Segment.{Segment}
-use Rattle.records.specs.Records.{RuleRecord, Records, Words, recordsOf, wordsOf, recordAt, Shaped, ShapedRecords}
+use Rattle.conversations.specs.declared.Turn.{Turn}
+use Rattle.records.specs.Records.{RuleRecord, Records, Lent, recordsOf, wordsOf, recordAt, Shaped, ShapedRecords}
 use Rattle.records.specs.Rule.{aged}
 use Rattle.records.specs.Good.{recordsGood}
 use Rattle.records.specs.Step.{switchedTo, ticked, acted}
 use Rattle.records.proofs.GoodLaws.{at-plain, switch-shaped}
 use Rattle.records.proofs.WordLaws.{records-back, records-shaped}
-use Rattle.steps.specs.Steps.{Arrival, segmentOf, idAt, eventOf, Outcome, outcomeOf, written}
-use Rattle.firewall.specs.Firewall.{answered, After, Left, switchOf, judgeOf}
-use Rattle.theorems.specs.Run.{arrival, Item, arrives, switches, go, Told, tell}
+use Rattle.events.specs.Events.{written}
+use Rattle.steps.specs.Steps.{Arrival, arrival, turnOf, idAt, eventOf, Outcome, outcomeOf}
+use Rattle.firewall.specs.Firewall.{answered, After, AfterCall, switchOf, judgeOf}
+use Rattle.theorems.specs.Run.{Item, arrives, switches, go, Told, tell}
 use Rattle.theorems.specs.Statements.{isAnswer}
 use Rattle.theorems.specs.Clock.{
   ButLast,
@@ -33,6 +35,7 @@ use Rattle.theorems.specs.Clock.{
   ClockReset,
 }
 use Rattle.theorems.proofs.Calls.{
+  outcome,
   reach,
   outcome-last,
   outcome-back,
@@ -47,7 +50,7 @@ use Rattle.theorems.proofs.Kept.{go-shaped}
 -- ---- the same elapsed time
 
 -- goodness does not look at the last reading
-good-alike : (t : Table) (v w : Words) → ButLast v w → recordsGood t (recordsOf v) ≡ recordsGood t (recordsOf w)
+good-alike : (t : Table) (v w : Lent) → ButLast v w → recordsGood t (recordsOf v) ≡ recordsGood t (recordsOf w)
 unfolding recordsGood
 good-alike t v w b = λ i. recordsGood t (record { last = 0; state = b .state i; rules = b .rules i })
 
@@ -60,10 +63,10 @@ words-alike s u h k p q = record {
 }
 
 -- two frames of the same bytes after the same elapsed time
-module _ (t : Table) (v w : Words) (n m : ℕ) (bytes : List ℕ) (l : Layers) (b : ButLast v w)
+module _ (t : Table) (v w : Lent) (n m : ℕ) (bytes : List ℕ) (l : Layers) (b : ButLast v w)
     (e : n - recordsOf v .last ≡ m - recordsOf w .last) where
-  abbrev from : Words → ℕ → Outcome
-  from u k = outcomeOf t (recordsOf u) (arrival k bytes) l
+  abbrev from : Lent → ℕ → Outcome
+  from u k = outcome t (recordsOf u) (arrival k bytes) l
 
   -- the records aged by a time, at a last reading that nothing looks at
   abbrev aged-by : ℕ → ℕ → List RuleRecord → Records
@@ -71,7 +74,7 @@ module _ (t : Table) (v w : Words) (n m : ℕ) (bytes : List ℕ) (l : Layers) (
 
   answer-alike : (space : List ℕ) → answer (from v n) space ≡ answer (from w m) space
   unfolding outcomeOf ticked
-  answer-alike space = λ i. answer (reach t (b .state i) bytes l (aged-by (e i) (b .state i) (b .rules i))) space
+  answer-alike space = λ i. answer (reach t (b .state i) (seen bytes l) (aged-by (e i) (b .state i) (b .rules i))) space
 
   outcome-alike : Shaped v → Shaped w → ButLast (wordsOf (from v n .records)) (wordsOf (from w m .records))
   unfolding outcomeOf ticked acted
@@ -80,15 +83,15 @@ module _ (t : Table) (v w : Words) (n m : ℕ) (bytes : List ℕ) (l : Layers) (
       (outcome-shaped t (recordsOf v) (arrival n bytes) l (records-shaped v h))
       (outcome-shaped t (recordsOf w) (arrival m bytes) l (records-shaped w k))
       (b .state)
-      (λ i. reach t (b .state i) bytes l (aged-by (e i) (b .state i) (b .rules i)) .records .rules)
+      (λ i. reach t (b .state i) (seen bytes l) (aged-by (e i) (b .state i) (b .rules i)) .records .rules)
 
 judge-alike :
-    (t : Table) (v w : Words) (n m : ℕ) (bytes space : List ℕ) → Shaped v → Shaped w → ButLast v w
+    (t : Table) (v w : Lent) (n m : ℕ) (bytes space : List ℕ) → Shaped v → Shaped w → ButLast v w
     → n - recordsOf v .last ≡ m - recordsOf w .last
     → SameButLast (judgeOf t v (arrival n bytes) space) (judgeOf t w (arrival m bytes) space)
 judge-alike t v w n m bytes space h k b e =
     judge-two t v w bytes space n m SameButLast (good-alike t v w b)
-    (λ number place. record { said = refl; space = refl; words = b })
+    (λ r. record { said = refl; space = refl; words = b })
     (λ l f g q r. record {
       said = ap (λ (x : Told). x .said) (answer-alike t v w n m bytes l b e space);
       space = ap (λ (x : Told). x .space) (answer-alike t v w n m bytes l b e space);
@@ -101,12 +104,12 @@ clock-back t w n bytes space s m =
 
 -- ---- a run
 
-switch-alike : (t : Table) (n : ℕ) (v w : Words) → Shaped v → Shaped w → ButLast v w
+switch-alike : (t : Table) (n : ℕ) (v w : Lent) → Shaped v → Shaped w → ButLast v w
     → (switchOf t n v .said ≡ switchOf t n w .said) × ButLast (switchOf t n v .words) (switchOf t n w .words)
 unfolding switchedTo
 switch-alike t n v w h k b =
-    switch-two t n v w (λ (x y : Left). (x .said ≡ y .said) × ButLast (x .words) (y .words)) (good-alike t v w b)
-    (λ number place. (refl, b))
+    switch-two t n v w (λ (x y : AfterCall). (x .said ≡ y .said) × ButLast (x .words) (y .words)) (good-alike t v w b)
+    (λ r. (refl, b))
     (λ e g m. (
       refl,
       words-alike (switchedTo n (recordsOf v)) (switchedTo n (recordsOf w)) (switch-shaped n (recordsOf v) (records-shaped v h))
@@ -116,7 +119,7 @@ switch-alike t n v w h k b =
     ))
 
 frame-alike :
-    (t : Table) (v w : Words) (a c : Arrival) (space room : List ℕ) → Shaped v → Shaped w → ButLast v w
+    (t : Table) (v w : Lent) (a c : Arrival) (space room : List ℕ) → Shaped v → Shaped w → ButLast v w
     → AlikeCall v w (arrives a space) (arrives c room)
     → SameButLast (judgeOf t v a space) (judgeOf t w c room)
 frame-alike t v w a c space room h k b p =
@@ -124,7 +127,7 @@ frame-alike t v w a c space room h k b p =
     (subst (λ z. SameButLast (judgeOf t v a space) (judgeOf t w (arrival (c .reading) z) space)) (p .0)
     (judge-alike t v w (a .reading) (c .reading) (a .bytes) space h k b (p .2)))
 
-go-alike : (t : Table) (v w : Words) (x y : Item) → Shaped v → Shaped w → ButLast v w → AlikeCall v w x y
+go-alike : (t : Table) (v w : Lent) (x y : Item) → Shaped v → Shaped w → ButLast v w → AlikeCall v w x y
     → (tell t v x ≡ tell t w y) × ButLast (go t v x) (go t w y)
 unfolding go tell
 go-alike t v w (arrives a space) (arrives c room) h k b p =
@@ -149,20 +152,20 @@ elapsed-only t v w (x ∷ xs) (y ∷ ys) h k b p =
 
 -- the reading becomes the last
 outcome-reading :
-    (t : Table) (w : Words) (a : Arrival) (l : Layers) → Shaped w
-    → recordsOf (wordsOf (outcomeOf t (recordsOf w) a l .records)) .last ≡ a .reading
+    (t : Table) (w : Lent) (a : Arrival) (l : Layers) → Shaped w
+    → recordsOf (wordsOf (outcome t (recordsOf w) a l .records)) .last ≡ a .reading
 outcome-reading t w a l h = ap (λ z. z .last) (outcome-back t w a l h) ∙ outcome-last t (recordsOf w) a l
 
 judged-last :
-    (t : Table) (w : Words) (a : Arrival) (space : List ℕ) → Shaped w → isAnswer (judgeOf t w a space .said) ≡ 1
+    (t : Table) (w : Lent) (a : Arrival) (space : List ℕ) → Shaped w → isAnswer (judgeOf t w a space .said) ≡ 1
     → recordsOf (judgeOf t w a space .words) .last ≡ a .reading
 judged-last t w a space h =
     judge-by t w a space (λ (x : After). isAnswer (x .said) ≡ 1 → recordsOf (x .words) .last ≡ a .reading)
-    (λ k place e. absurd (omega arith))
+    (λ k e. absurd (omega arith))
     (λ l e f. outcome-reading t w a l h)
 
 -- two words at clocks that are n apart
-record Shifted (n : ℕ) (v w : Words) : Type 0 where
+record Shifted (n : ℕ) (v w : Lent) : Type 0 where
   left : Shaped v
   right : Shaped w
   same : ButLast v w
@@ -170,47 +173,47 @@ record Shifted (n : ℕ) (v w : Words) : Type 0 where
 
 module _ (t : Table) (n : ℕ) where
   switch-last :
-      (v w : Words) (state : ℕ) → Shifted n v w
+      (v w : Lent) (state : ℕ) → Shifted n v w
       → recordsOf (switchOf t state w .words) .last ≡ recordsOf (switchOf t state v .words) .last + n
   unfolding switchedTo
   switch-last v w state d =
-      switch-two t state v w (λ (x y : Left). recordsOf (y .words) .last ≡ recordsOf (x .words) .last + n) (good-alike t v w (d .same))
-      (λ number place. d .last)
+      switch-two t state v w (λ (x y : AfterCall). recordsOf (y .words) .last ≡ recordsOf (x .words) .last + n) (good-alike t v w (d .same))
+      (λ r. d .last)
       (λ e g m. last-of w (d .right) ∙ d .last ∙ sym (ap (λ z. z + n) (last-of v (d .left))))
     where
-      last-of : (u : Words) → Shaped u → recordsOf (wordsOf (switchedTo state (recordsOf u))) .last ≡ recordsOf u .last
+      last-of : (u : Lent) → Shaped u → recordsOf (wordsOf (switchedTo state (recordsOf u))) .last ≡ recordsOf u .last
       last-of u h = ap (λ z. z .last) (records-back (switchedTo state (recordsOf u)) (switch-shaped state (recordsOf u) (records-shaped u h)))
 
   frame-last :
-      (v w : Words) (a : Arrival) (space : List ℕ) → Shifted n v w
+      (v w : Lent) (a : Arrival) (space : List ℕ) → Shifted n v w
       → recordsOf (judgeOf t w (arrival (a .reading + n) (a .bytes)) space .words) .last
       ≡ recordsOf (judgeOf t v a space .words) .last + n
   frame-last v w a space d =
       judge-two t v w (a .bytes) space (a .reading) (a .reading + n)
       (λ (x y : After). recordsOf (y .words) .last ≡ recordsOf (x .words) .last + n) (good-alike t v w (d .same))
-      (λ number place. d .last)
+      (λ r. d .last)
       (λ l e g q r.
       outcome-reading t w (arrival (a .reading + n) (a .bytes)) l (d .right)
       ∙ sym (ap (λ z. z + n) (outcome-reading t v a l (d .left))))
 
-  call-alike : (v w : Words) (x : Item) → Shifted n v w → AlikeCall v w x (later n x)
+  call-alike : (v w : Lent) (x : Item) → Shifted n v w → AlikeCall v w x (later n x)
   call-alike v w (arrives a space) d = (refl, refl, let h = d .last in omega arith)
   call-alike v w (switches state) d = refl
 
   -- alike calls keep them so, where the last readings stay n apart
   after-alike :
-      (v w : Words) (x y : Item) → Shaped v → Shaped w → ButLast v w → AlikeCall v w x y
+      (v w : Lent) (x y : Item) → Shaped v → Shaped w → ButLast v w → AlikeCall v w x y
       → recordsOf (go t w y) .last ≡ recordsOf (go t v x) .last + n
       → Shifted n (go t v x) (go t w y)
   after-alike v w x y h k b p e =
       record { left = go-shaped t v x h; right = go-shaped t w y k; same = go-alike t v w x y h k b p .1; last = e }
 
-  call-last : (v w : Words) (x : Item) → Shifted n v w → recordsOf (go t w (later n x)) .last ≡ recordsOf (go t v x) .last + n
+  call-last : (v w : Lent) (x : Item) → Shifted n v w → recordsOf (go t w (later n x)) .last ≡ recordsOf (go t v x) .last + n
   unfolding go
   call-last v w (arrives a space) d = frame-last v w a space d
   call-last v w (switches state) d = switch-last v w state d
 
-  run-alike : (v w : Words) (items : List Item) → Shifted n v w → AlikeRun t v w items (map (later n) items)
+  run-alike : (v w : Lent) (items : List Item) → Shifted n v w → AlikeRun t v w items (map (later n) items)
   run-alike v w [] d = tt
   run-alike v w (x ∷ items) d =
       let p = call-alike v w x d in
@@ -249,29 +252,29 @@ clock-reset t w a space items h m judged =
 -- ---- a decider that does not look at the clock
 
 plain-answer :
-    (t : Table) (s : Records) (bytes space : List ℕ) (l : Layers) → Plain t (deciderOf t (s .state) bytes l) → (n m : ℕ)
-    → answer (outcomeOf t s (arrival n bytes) l) space ≡ answer (outcomeOf t s (arrival m bytes) l) space
+    (t : Table) (s : Records) (bytes space : List ℕ) (l : Layers) → Plain t (deciderOf t (s .state) (seen bytes l)) → (n m : ℕ)
+    → answer (outcome t s (arrival n bytes) l) space ≡ answer (outcome t s (arrival m bytes) l) space
 unfolding outcomeOf ticked
 plain-answer t s bytes space l p n m =
     ap by (at-plain t (s .state) g d (recordAt (ticked t n s) d) (recordAt (ticked t m s) d) p)
   where
-    g : Segment
-    g = segmentOf (l .ip) (l .transport)
+    g : Turn
+    g = turnOf (seen bytes l)
 
     d : ℕ
-    d = deciderOf t (s .state) bytes l
+    d = deciderOf t (s .state) (seen bytes l)
 
     by : ℕ → Told
     by v =
-        let event = eventOf t (s .state) bytes l d v in
+        let event = eventOf t (s .state) (seen bytes l) d v in
         record { said = answered v (idAt t d) (length event); space = written event space }
 
 pub clock-free : ClockFree
 clock-free t w bytes space l q p n m =
     judge-two t w w bytes space n m (λ (x y : After). (x .said ≡ y .said) × (x .space ≡ y .space)) refl
-    (λ k place. (refl, refl))
+    (λ k. (refl, refl))
     (λ j e h r room.
     let same : j ≡ l = cc in
-    let plain = subst (λ z. Plain t (deciderOf t (recordsOf w .state) bytes z)) (sym same) p in
+    let plain = subst (λ z. Plain t (deciderOf t (recordsOf w .state) (seen bytes z))) (sym same) p in
     let told = plain-answer t (recordsOf w) bytes space j plain n m in
     (ap (λ (x : Told). x .said) told, ap (λ (x : Told). x .space) told))

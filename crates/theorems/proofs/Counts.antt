@@ -6,25 +6,27 @@ use mathlib.Core.Bool.{Bool, true, false, not}
 use mathlib.Core.List.{List, [], _∷_}
 use lib.ListN.{length, getD, set}
 use Rattle.numbers.specs.Lists.{each, ends, said}
+use Rattle.layers.specs.Seen.{seen}
 use Rattle.layers.specs.declared.Layers.{Layers}
 use Rattle.table.specs.declared.Table.{Table}
 use Rattle.table.specs.declared.Rule.{Rule}
-use Rattle.table.specs.declared.Fault.the-variants as fault
-use Rattle.table.specs.Table.{rulesOf, faultOf}
+use Rattle.faults.specs.declared.Fault.the-variants as fault
+use Rattle.table.specs.Table.{rulesOf}
+use Rattle.faults.specs.Faults.{faultOf}
 use Rattle.matching.specs.Matching.{deciderOf}
-use Rattle.records.specs.declared.Segment.{Segment}
-use Rattle.records.specs.Records.{RuleRecord, noRecord, Records, Words, recordsOf, wordsOf, recordAt}
+use Rattle.conversations.specs.declared.Turn.{Turn}
+use Rattle.records.specs.Records.{RuleRecord, noRecord, Records, Lent, recordsOf, wordsOf, recordAt}
 use Rattle.records.specs.Rule.{aged, counted, passes}
 use Rattle.records.specs.Good.{ruleOfRecord}
 use Rattle.records.specs.Step.{freshOf, switchedTo, ticked, reaction, acted}
 use Rattle.records.proofs.RuleLaws.{CountedBy, counted-sum, aged-count}
 use Rattle.records.proofs.GoodLaws.{ticked-at, ticked-length, acted-own, acted-by, at-count, fresh-shaped, switch-shaped}
 use Rattle.records.proofs.WordLaws.{records-back, records-shaped}
-use Rattle.steps.specs.Steps.{Arrival, segmentOf, outcomeOf}
-use Rattle.firewall.specs.Firewall.{done, After, Left, startOf, switchOf, judgeOf}
+use Rattle.steps.specs.Steps.{Arrival, turnOf, outcomeOf}
+use Rattle.firewall.specs.Firewall.{done, After, AfterCall, startOf, switchOf, judgeOf}
 use Rattle.theorems.specs.Run.{Item, arrives, switches, go, tell, Good}
 use Rattle.theorems.specs.Statements.{sumOf, countsOf, total, NoneStopped, isAnswer, judgedIn, CountsAdd}
-use Rattle.theorems.proofs.Calls.{decider-most, outcome-back, judge-by, start-by, switch-by}
+use Rattle.theorems.proofs.Calls.{outcome, decider-most, outcome-back, judge-by, start-by, switch-by}
 use Rattle.theorems.proofs.Kept.{go-kept, good-kept}
 
 -- ---- sums
@@ -49,7 +51,7 @@ sum-each f g h (x ∷ k) (y ∷ l) = ap₂ _+_ (h x y) (sum-each f g h k l)
 abbrev Counts : RuleRecord → Type 0
 Counts x = (x .passed < 4294967295) × (x .blocked < 4294967295)
 
-acted-rules : (t : Table) (g : Segment) (d : ℕ) (s : Records) → acted t g d s .rules ≡ set (s .rules) d (reaction t g d s .after)
+acted-rules : (t : Table) (g : Turn) (d : ℕ) (s : Records) → acted t g d s .rules ≡ set (s .rules) d (reaction t g d s .after)
 unfolding acted
 acted-rules t g d s = refl
 
@@ -61,7 +63,7 @@ ticked-total t reading s =
 
 -- the decider's counts, where they have not stopped
 acted-total :
-    (t : Table) (g : Segment) (d : ℕ) (s : Records) → d < length (s .rules) → NoneStopped (acted t g d s)
+    (t : Table) (g : Turn) (d : ℕ) (s : Records) → d < length (s .rules) → NoneStopped (acted t g d s)
     → total (acted t g d s) ≡ total s + 1
 unfolding total
 acted-total t g d s h n =
@@ -92,7 +94,7 @@ ticked-before t reading s n i =
     let c = aged-count e r (recordAt s i) in
     omega arith
 
-acted-before : (t : Table) (g : Segment) (d : ℕ) (s : Records) → NoneStopped (acted t g d s) → NoneStopped s
+acted-before : (t : Table) (g : Turn) (d : ℕ) (s : Records) → NoneStopped (acted t g d s) → NoneStopped s
 acted-before t g d s n i =
     acted-by t g d s i (λ (x : RuleRecord). Counts x → Counts (recordAt s i))
     (λ q h.
@@ -103,17 +105,17 @@ acted-before t g d s n i =
 -- ---- one call
 
 -- with `more` frames judged
-record Step (w v : Words) (more : ℕ) : Type 0 where
+record Step (w v : Lent) (more : ℕ) : Type 0 where
   adds : total (recordsOf v) ≡ more + total (recordsOf w)
   before : NoneStopped (recordsOf w)
 
-stays : (w : Words) → NoneStopped (recordsOf w) → Step w w 0
+stays : (w : Lent) → NoneStopped (recordsOf w) → Step w w 0
 stays w n = record { adds = omega arith; before = n }
 
 outcome-step :
-    (t : Table) (w : Words) (a : Arrival) (l : Layers) → faultOf t ≡ fault.Good → Good t w
-    → NoneStopped (recordsOf (wordsOf (outcomeOf t (recordsOf w) a l .records)))
-    → Step w (wordsOf (outcomeOf t (recordsOf w) a l .records)) 1
+    (t : Table) (w : Lent) (a : Arrival) (l : Layers) → faultOf t ≡ fault.Good → Good t w
+    → NoneStopped (recordsOf (wordsOf (outcome t (recordsOf w) a l .records)))
+    → Step w (wordsOf (outcome t (recordsOf w) a l .records)) 1
 unfolding outcomeOf
 outcome-step t w a l e g n = record {
   adds =
@@ -124,11 +126,11 @@ outcome-step t w a l e g n = record {
   before = ticked-before t (a .reading) (recordsOf w) (acted-before t x d u after);
 }
   where
-    x : Segment
-    x = segmentOf (l .ip) (l .transport)
+    x : Turn
+    x = turnOf (seen (a .bytes) l)
 
     d : ℕ
-    d = deciderOf t (recordsOf w .state) (a .bytes) l
+    d = deciderOf t (recordsOf w .state) (seen (a .bytes) l)
 
     u : Records
     u = ticked t (a .reading) (recordsOf w)
@@ -142,18 +144,18 @@ outcome-step t w a l e g n = record {
     here : d < length (u .rules)
     here =
         rw (ticked-length t (a .reading) (recordsOf w), records-shaped w (g .shaped) .rules)
-        (decider-most t (recordsOf w .state) (a .bytes) l e)
+        (decider-most t (recordsOf w .state) (seen (a .bytes) l) e)
 
 judge-step :
-    (t : Table) (w : Words) (a : Arrival) (space : List ℕ) → Good t w → NoneStopped (recordsOf (judgeOf t w a space .words))
+    (t : Table) (w : Lent) (a : Arrival) (space : List ℕ) → Good t w → NoneStopped (recordsOf (judgeOf t w a space .words))
     → Step w (judgeOf t w a space .words) (isAnswer (judgeOf t w a space .said))
 judge-step t w a space g =
     judge-by t w a space (λ (x : After). NoneStopped (recordsOf (x .words)) → Step w (x .words) (isAnswer (x .said)))
-    (λ m place n. stays w n)
+    (λ r n. stays w n)
     (λ l e n. outcome-step t w a l e g n)
 
 switched-step :
-    (t : Table) (state : ℕ) (w : Words) → Good t w → NoneStopped (recordsOf (wordsOf (switchedTo state (recordsOf w))))
+    (t : Table) (state : ℕ) (w : Lent) → Good t w → NoneStopped (recordsOf (wordsOf (switchedTo state (recordsOf w))))
     → Step w (wordsOf (switchedTo state (recordsOf w))) 0
 unfolding total switchedTo
 switched-step t state w g n =
@@ -162,15 +164,15 @@ switched-step t state w g n =
     record { adds = omega arith; before = subst NoneStopped q n }
 
 switch-step :
-    (t : Table) (state : ℕ) (w : Words) → Good t w → NoneStopped (recordsOf (switchOf t state w .words))
+    (t : Table) (state : ℕ) (w : Lent) → Good t w → NoneStopped (recordsOf (switchOf t state w .words))
     → Step w (switchOf t state w .words) (isAnswer (switchOf t state w .said))
 switch-step t state w g =
-    switch-by t state w (λ (x : Left). NoneStopped (recordsOf (x .words)) → Step w (x .words) (isAnswer (x .said)))
-    (λ m place n. stays w n)
+    switch-by t state w (λ (x : AfterCall). NoneStopped (recordsOf (x .words)) → Step w (x .words) (isAnswer (x .said)))
+    (λ r n. stays w n)
     (λ e h m n. switched-step t state w g n)
 
 go-step :
-    (t : Table) (w : Words) (x : Item) → Good t w → NoneStopped (recordsOf (go t w x))
+    (t : Table) (w : Lent) (x : Item) → Good t w → NoneStopped (recordsOf (go t w x))
     → Step w (go t w x) (judgedIn (tell t w x))
 unfolding go tell
 go-step t w (arrives a space) g n = judge-step t w a space g n
@@ -179,7 +181,7 @@ go-step t w (switches state) g n = switch-step t state w g n
 -- ---- a run
 
 run-step :
-    (t : Table) (items : List Item) (w : Words) → Good t w → NoneStopped (recordsOf (ends (go t) w items))
+    (t : Table) (items : List Item) (w : Lent) → Good t w → NoneStopped (recordsOf (ends (go t) w items))
     → Step w (ends (go t) w items) (sumOf judgedIn (said (go t) (tell t) w items))
 run-step t [] w g n = stays w n
 run-step t (x ∷ items) w g n =
@@ -192,20 +194,20 @@ unfolding total freshOf
 fresh-total reading = ap total (records-back (freshOf reading) (fresh-shaped reading))
 
 start-step :
-    (t : Table) (reading : ℕ) (w : Words) → startOf t reading w .said ≡ done
+    (t : Table) (reading : ℕ) (w : Lent) → startOf t reading w .said ≡ done
     → Good t (startOf t reading w .words) × (total (recordsOf (startOf t reading w .words)) ≡ 0)
 start-step t reading w d = (good-kept .fresh t reading w d, none d)
   where
     none : startOf t reading w .said ≡ done → total (recordsOf (startOf t reading w .words)) ≡ 0
     none =
-        start-by t reading w (λ (x : Left). x .said ≡ done → total (recordsOf (x .words)) ≡ 0)
+        start-by t reading w (λ (x : AfterCall). x .said ≡ done → total (recordsOf (x .words)) ≡ 0)
         (λ place e. absurd (let z : _≡_ {A = ℕ} 0 1 = cc in omega arith))
         (λ e d. fresh-total reading)
 
 pub counts-add : CountsAdd
 counts-add t reading w v items e n =
     let start =
-    subst (λ (x : Words). Good t x × (total (recordsOf x) ≡ 0)) (ap (λ (x : Left). x .words) e)
-    (start-step t reading w (ap (λ (x : Left). x .said) e)) in
+    subst (λ (x : Lent). Good t x × (total (recordsOf x) ≡ 0)) (ap (λ (x : AfterCall). x .words) e)
+    (start-step t reading w (ap (λ (x : AfterCall). x .said) e)) in
     let run = run-step t items v (start .0) n in
     omega (arith, run .adds, start .1)

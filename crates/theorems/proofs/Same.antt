@@ -2,12 +2,15 @@
 use Prim.Native.Nat.{ℕ}
 use mathlib.Core.Path.{_≡_, refl, sym, ap, _∙_}
 use mathlib.Core.List.{List}
-use Rattle.records.specs.Records.{Words, wordsOf}
+use Rattle.conversations.specs.Places.{Place, placesOf, placesWords, ShapedPlaces}
+use Rattle.conversations.specs.Tracking.{Tracked}
+use Rattle.conversations.proofs.PlaceLaws.{places-back}
+use Rattle.records.specs.Records.{Lent, wordsOf}
 use Rattle.records.specs.declared.verdict.Verdict.{Verdict}
 use Rattle.records.proofs.WordLaws.{words-back}
-use Rattle.steps.specs.Steps.{Stepped, steppedAs}
+use Rattle.steps.specs.Steps.{Stepped, stepped, steppedAs}
 use Rattle.steps.specs.declared.Answer.{Answer}
-use Rattle.firewall.specs.Firewall.{Said, refused, answered, After, Left, saidChecked, saidStarted, saidSwitched, saidJudged}
+use Rattle.firewall.specs.Firewall.{Said, refused, answered, After, says, AfterCall, leaves, saidChecked, saidStarted, saidSwitched, saidJudged}
 use Rattle.firewall.specs.declared.refusal.Refusal.{Refusal}
 use Rattle.firewall.specs.declared.Checked.{Checked}
 use Rattle.firewall.specs.declared.Checked.the-variants as checked
@@ -17,15 +20,12 @@ use Rattle.firewall.specs.declared.Switched.{Switched}
 use Rattle.firewall.specs.declared.Switched.the-variants as switched
 use Rattle.firewall.specs.declared.Judged.{Judged}
 use Rattle.firewall.specs.declared.Judged.the-variants as judged
-use Rattle.theorems.specs.Unique.{leaves, writes, steps, OneOutcome, Unique}
+use Rattle.theorems.specs.Unique.{OneOutcome, Unique}
 
 -- ---- what is said tells the answer
 
-refusal-same : (r q : Refusal) → refused (r .number) (r .place) ≡ refused (q .number) (q .place) → r ≡ q
-refusal-same r q e =
-    let n : r .number ≡ q .number = cc in
-    let p : r .place ≡ q .place = cc in
-    λ i. record { number = n i; place = p i }
+refusal-same : (r q : Refusal) → refused r ≡ refused q → r ≡ q
+refusal-same r q e = cc
 
 answer-same :
     (a b : Answer) → answered (a .verdict .number) (a .rule) (a .length) ≡ answered (b .verdict .number) (b .rule) (b .length)
@@ -63,11 +63,11 @@ judged-same (judged.Answered a) (judged.Answered b) e = ap judged.Answered (answ
 -- ---- so does what is left
 
 module _ {R : Type 0} (say : R → Said) (same : (r q : R) → say r ≡ say q → r ≡ q) where
-  left-same : (x : Left) (r q : R) (v u : Words) → leaves (say r) v ≡ x → leaves (say q) u ≡ x → (r ≡ q) × (v ≡ u)
-  left-same x r q v u e f = (same r q (ap (λ (z : Left). z .said) (e ∙ sym f)), ap (λ (z : Left). z .words) (e ∙ sym f))
+  left-same : (x : AfterCall) (r q : R) (v u : Lent) → leaves (say r) v ≡ x → leaves (say q) u ≡ x → (r ≡ q) × (v ≡ u)
+  left-same x r q v u e f = (same r q (ap (λ (z : AfterCall). z .said) (e ∙ sym f)), ap (λ (z : AfterCall). z .words) (e ∙ sym f))
 
   after-same :
-      (z : After) (r q : R) (v u : Words) (x y : List ℕ) → writes (say r) v x ≡ z → writes (say q) u y ≡ z
+      (z : After) (r q : R) (v u : Lent) (x y : List ℕ) → says (say r) v x ≡ z → says (say q) u y ≡ z
       → (r ≡ q) × (v ≡ u) × (x ≡ y)
   after-same z r q v u x y e f = (
     same r q (ap (λ (z : After). z .said) (e ∙ sym f)),
@@ -81,7 +81,7 @@ verdict-same : (r q : Verdict) → r .number ≡ q .number → r ≡ q
 verdict-same r q e = λ i. record { number = e i }
 
 stepped-same :
-    (z : Stepped) (r q : Answer) (v u : Words) (x y : List ℕ) → steps r v x ≡ z → steps q u y ≡ z → (r ≡ q) × (v ≡ u) × (x ≡ y)
+    (z : Stepped) (r q : Answer) (v u : Lent) (x y : List ℕ) → stepped r v x ≡ z → stepped q u y ≡ z → (r ≡ q) × (v ≡ u) × (x ≡ y)
 stepped-same z r q v u x y e f = (
   λ i. record {
     verdict = verdict-same (r .verdict) (q .verdict) (ap (λ (z : Stepped). z .verdict) (e ∙ sym f)) i;
@@ -92,6 +92,9 @@ stepped-same z r q v u x y e f = (
   ap (λ (z : Stepped). z .space) (e ∙ sym f),
 )
 
+places-same : (ps : List Place) (v u : List (List ℕ)) → ShapedPlaces v → ShapedPlaces u → placesOf v ≡ ps → placesOf u ≡ ps → v ≡ u
+places-same ps v u h k e f = sym (places-back v (h .1)) ∙ ap placesWords (e ∙ sym f) ∙ places-back u (k .1)
+
 pub one-outcome : OneOutcome
 one-outcome A is x y e f = e ∙ sym f
 
@@ -99,6 +102,10 @@ pub unique : Unique
 unique = record {
   number = λ n r q e f. verdict-same r q (e ∙ sym f);
   records = λ s v u h k e f. sym (words-back v h) ∙ ap wordsOf (e ∙ sym f) ∙ words-back u k;
+  places = places-same;
+  tracked = λ x r q v u h k e f.
+      (ap (λ (z : Tracked). z .progress) (e ∙ sym f), places-same (x .places) v u h k (ap (λ (z : Tracked). z .places) e) (ap (λ (z : Tracked). z .places) f));
+  wrote = λ event space x y n m h k. (h .count ∙ sym (k .count), h .left ∙ sym (k .left));
   read = λ bytes r q e f. e ∙ sym f;
   check = λ t w r q e f. checked-same r q (e ∙ sym f);
   fresh = λ t reading w. left-same saidStarted started-same _;

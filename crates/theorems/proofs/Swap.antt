@@ -6,23 +6,26 @@ use mathlib.Core.Bool.{true}
 use mathlib.Core.List.{List}
 use lib.ListN.{length}
 use Rattle.numbers.proofs.Lists.{set-two}
+use Rattle.layers.specs.Seen.{seen}
 use Rattle.layers.specs.declared.Layers.{Layers}
 use Rattle.table.specs.declared.Table.{Table}
-use Rattle.table.specs.declared.Fault.the-variants as fault
-use Rattle.table.specs.Table.{faultOf}
+use Rattle.faults.specs.declared.Fault.the-variants as fault
+use Rattle.faults.specs.Faults.{faultOf}
 use Rattle.matching.specs.Matching.{deciderOf}
-use Rattle.records.specs.declared.Segment.{Segment}
-use Rattle.records.specs.Records.{RuleRecord, noRecord, Records, Words, recordsOf, wordsOf, Shaped}
+use Rattle.conversations.specs.declared.Turn.{Turn}
+use Rattle.records.specs.Records.{RuleRecord, noRecord, Records, Lent, recordsOf, wordsOf, Shaped}
 use Rattle.records.specs.Good.{recordsGood}
 use Rattle.records.specs.Step.{ticked, reactedAt, reaction, acted}
 use Rattle.records.proofs.GoodLaws.{acted-other, ticked-still}
-use Rattle.steps.specs.Steps.{Arrival, segmentOf, eventOf, idAt, Outcome, outcomeOf, written}
+use Rattle.events.specs.Events.{written}
+use Rattle.steps.specs.Steps.{Arrival, turnOf, eventOf, idAt, Outcome}
 use Rattle.firewall.specs.Firewall.{answered, After, judgedAs, judgeOf}
 use Rattle.theorems.specs.Run.{Item, arrives, switches, go, Told, tell, Good, Judges, ApartFrames, Apart}
 use Rattle.theorems.specs.Statements.{Demand3}
 use Rattle.theorems.proofs.Machine.{many}
 use Rattle.theorems.proofs.Calls.{
   reach,
+  outcome,
   outcome-reach,
   outcome-state,
   outcome-last,
@@ -39,7 +42,7 @@ use Rattle.theorems.proofs.Kept.{go-shaped}
 -- ---- two deciders
 
 acted-comm :
-    (t : Table) (g h : Segment) (d k : ℕ) → (d ≡ k → ⊥) → (s : Records) → acted t g d (acted t h k s) ≡ acted t h k (acted t g d s)
+    (t : Table) (g h : Turn) (d k : ℕ) → (d ≡ k → ⊥) → (s : Records) → acted t g d (acted t h k s) ≡ acted t h k (acted t g d s)
 unfolding acted
 acted-comm t g h d k ne s = λ i. record {
   last = s .last;
@@ -51,7 +54,7 @@ acted-comm t g h d k ne s = λ i. record {
 
 -- a decider's reaction does not see what another did
 reaction-alone :
-    (t : Table) (g h : Segment) (d k : ℕ) → (d ≡ k → ⊥) → (s : Records) → reaction t g d (acted t h k s) ≡ reaction t g d s
+    (t : Table) (g h : Turn) (d k : ℕ) → (d ≡ k → ⊥) → (s : Records) → reaction t g d (acted t h k s) ≡ reaction t g d s
 unfolding acted
 reaction-alone t g h d k ne s = ap (reactedAt t (s .state) g d) (acted-other t h k s d ne)
 
@@ -61,17 +64,17 @@ reaction-alone t g h d k ne s = ap (reactedAt t (s .state) g d) (acted-other t h
 second-reach :
     (t : Table) (s : Records) (a b : Arrival) (l m : Layers) → faultOf t ≡ fault.Good → recordsGood t s ≡ true
     → a .reading ≡ b .reading
-    → outcomeOf t (outcomeOf t s a l .records) b m ≡ reach t (s .state) (b .bytes) m (outcomeOf t s a l .records)
+    → outcome t (outcome t s a l .records) b m ≡ reach t (s .state) (seen (b .bytes) m) (outcome t s a l .records)
 second-reach t s a b l m e h q =
-    let z : Records = outcomeOf t s a l .records in
+    let z : Records = outcome t s a l .records in
     outcome-reach t z b m
-    ∙ ap₂ (λ (n : ℕ) (u : Records). reach t n (b .bytes) m u) (outcome-state t s a l)
+    ∙ ap₂ (λ (n : ℕ) (u : Records). reach t n (seen (b .bytes) m) u) (outcome-state t s a l)
     (ticked-still t (b .reading) z e (outcome-good t s a l e h) (outcome-last t s a l ∙ q))
 
 module _ (t : Table) (s : Records) (a b : Arrival) (l m : Layers)
     (e : faultOf t ≡ fault.Good) (h : recordsGood t s ≡ true) (q : a .reading ≡ b .reading)
-    (ne : deciderOf t (s .state) (a .bytes) l ≡ deciderOf t (s .state) (b .bytes) m → ⊥) where
-  outcome-comm : outcomeOf t (outcomeOf t s b m .records) a l .records ≡ outcomeOf t (outcomeOf t s a l .records) b m .records
+    (ne : deciderOf t (s .state) (seen (a .bytes) l) ≡ deciderOf t (s .state) (seen (b .bytes) m) → ⊥) where
+  outcome-comm : outcome t (outcome t s b m .records) a l .records ≡ outcome t (outcome t s a l .records) b m .records
   outcome-comm =
       ap (λ o. o .records) (second-reach t s b a m l e h (sym q))
       ∙ ap (λ (o : Outcome). acted t ga da (o .records)) (outcome-reach t s b m)
@@ -80,24 +83,24 @@ module _ (t : Table) (s : Records) (a b : Arrival) (l m : Layers)
       ∙ sym (ap (λ (o : Outcome). acted t gb db (o .records)) (outcome-reach t s a l))
       ∙ sym (ap (λ o. o .records) (second-reach t s a b l m e h q))
     where
-      ga : Segment
-      ga = segmentOf (l .ip) (l .transport)
+      ga : Turn
+      ga = turnOf (seen (a .bytes) l)
 
-      gb : Segment
-      gb = segmentOf (m .ip) (m .transport)
+      gb : Turn
+      gb = turnOf (seen (b .bytes) m)
 
       da : ℕ
-      da = deciderOf t (s .state) (a .bytes) l
+      da = deciderOf t (s .state) (seen (a .bytes) l)
 
       db : ℕ
-      db = deciderOf t (s .state) (b .bytes) m
+      db = deciderOf t (s .state) (seen (b .bytes) m)
 
 -- a frame's answer does not see what another decider did at the same reading
 outcome-alone :
     (t : Table) (s : Records) (a b : Arrival) (l m : Layers) (space : List ℕ) → faultOf t ≡ fault.Good → recordsGood t s ≡ true
     → a .reading ≡ b .reading
-    → (deciderOf t (s .state) (b .bytes) m ≡ deciderOf t (s .state) (a .bytes) l → ⊥)
-    → answer (outcomeOf t (outcomeOf t s a l .records) b m) space ≡ answer (outcomeOf t s b m) space
+    → (deciderOf t (s .state) (seen (b .bytes) m) ≡ deciderOf t (s .state) (seen (a .bytes) l) → ⊥)
+    → answer (outcome t (outcome t s a l .records) b m) space ≡ answer (outcome t s b m) space
 outcome-alone t s a b l m space e h q ne =
     ap told (second-reach t s a b l m e h q)
     ∙ ap (λ (o : Outcome). by (reaction t gb db (o .records) .verdict)) (outcome-reach t s a l)
@@ -108,39 +111,39 @@ outcome-alone t s a b l m space e h q ne =
     told : Outcome → Told
     told o = answer o space
 
-    ga : Segment
-    ga = segmentOf (l .ip) (l .transport)
+    ga : Turn
+    ga = turnOf (seen (a .bytes) l)
 
-    gb : Segment
-    gb = segmentOf (m .ip) (m .transport)
+    gb : Turn
+    gb = turnOf (seen (b .bytes) m)
 
     da : ℕ
-    da = deciderOf t (s .state) (a .bytes) l
+    da = deciderOf t (s .state) (seen (a .bytes) l)
 
     db : ℕ
-    db = deciderOf t (s .state) (b .bytes) m
+    db = deciderOf t (s .state) (seen (b .bytes) m)
 
     by : ℕ → Told
     by v =
-        let event = eventOf t (s .state) (b .bytes) m db v in
+        let event = eventOf t (s .state) (seen (b .bytes) m) db v in
         record { said = answered v (idAt t db) (length event); space = written event space }
 
 -- ---- two calls
 
 -- a judged call after a judged call
 judge-after :
-    (t : Table) (w : Words) (a b : Arrival) (space room : List ℕ) (l m : Layers) → faultOf t ≡ fault.Good → Good t w
+    (t : Table) (w : Lent) (a b : Arrival) (space room : List ℕ) (l m : Layers) → faultOf t ≡ fault.Good → Good t w
     → Judges a space l → Judges b room m
-    → judgeOf t (go t w (arrives a space)) b room ≡ judgedAs (outcomeOf t (outcomeOf t (recordsOf w) a l .records) b m) room
+    → judgeOf t (go t w (arrives a space)) b room ≡ judgedAs (outcome t (outcome t (recordsOf w) a l .records) b m) room
 unfolding go
 judge-after t w a b space room l m e g i j =
     ap (λ (x : After). judgeOf t (x .words) b room) (judge-shows t w a space l e (g .good) i)
-    ∙ judge-shows t (wordsOf (outcomeOf t (recordsOf w) a l .records)) b room m e (outcome-kept t w a l e g .good) j
-    ∙ ap (λ z. judgedAs (outcomeOf t z b m) room) (outcome-back t w a l (g .shaped))
+    ∙ judge-shows t (wordsOf (outcome t (recordsOf w) a l .records)) b room m e (outcome-kept t w a l e g .good) j
+    ∙ ap (λ z. judgedAs (outcome t z b m) room) (outcome-back t w a l (g .shaped))
 
-module _ (t : Table) (w : Words) (a b : Arrival) (space room : List ℕ) (l m : Layers) (i : Judges a space l) (j : Judges b room m)
+module _ (t : Table) (w : Lent) (a b : Arrival) (space room : List ℕ) (l m : Layers) (i : Judges a space l) (j : Judges b room m)
     (q : a .reading ≡ b .reading)
-    (ne : deciderOf t (recordsOf w .state) (a .bytes) l ≡ deciderOf t (recordsOf w .state) (b .bytes) m → ⊥) where
+    (ne : deciderOf t (recordsOf w .state) (seen (a .bytes) l) ≡ deciderOf t (recordsOf w .state) (seen (b .bytes) m) → ⊥) where
   good-commute :
       faultOf t ≡ fault.Good → Good t w
       → go t (go t w (arrives b room)) (arrives a space) ≡ go t (go t w (arrives a space)) (arrives b room)
@@ -162,12 +165,12 @@ module _ (t : Table) (w : Words) (a b : Arrival) (space room : List ℕ) (l m : 
       told x = record { said = x .said; space = x .space }
 
 -- a call that refuses every frame leaves the words
-refused-go : (t : Table) (w : Words) (a : Arrival) (space : List ℕ) → Refuses t w → go t w (arrives a space) ≡ w
+refused-go : (t : Table) (w : Lent) (a : Arrival) (space : List ℕ) → Refuses t w → go t w (arrives a space) ≡ w
 unfolding go
 refused-go t w a space r = ap (λ (x : After). x .words) (r .all a space)
 
 module _ (t : Table) where
-  commute : (w : Words) (x y : Item) → Shaped w → Apart t w x y → go t (go t w y) x ≡ go t (go t w x) y
+  commute : (w : Lent) (x y : Item) → Shaped w → Apart t w x y → go t (go t w y) x ≡ go t (go t w x) y
   commute w (arrives a space) (arrives b room) h p =
       ⊎-elim (λ k. good-commute t w a b space room (p .one) (p .two) (p .first) (p .second) (p .reading) (p .deciders) (k .0) (k .1))
       (λ r.
@@ -179,14 +182,14 @@ module _ (t : Table) where
   commute w (switches n) y h p = absurd p
 
   alone :
-      (w : Words) (a b : Arrival) (space room : List ℕ) → Shaped w → ApartFrames t w a b space room
+      (w : Lent) (a b : Arrival) (space room : List ℕ) → Shaped w → ApartFrames t w a b space room
       → tell t (go t w (arrives a space)) (arrives b room) ≡ tell t w (arrives b room)
   alone w a b space room h p =
       ⊎-elim (λ k. good-alone t w a b space room (p .one) (p .two) (p .first) (p .second) (p .reading) (p .deciders) (k .0) (k .1))
       (λ r. ap (λ z. tell t z (arrives b room)) (refused-go t w a space r))
       (good-or-refused t w h)
 
-  turned : (w : Words) (a b : Arrival) (space room : List ℕ) → ApartFrames t w a b space room → ApartFrames t w b a room space
+  turned : (w : Lent) (a b : Arrival) (space room : List ℕ) → ApartFrames t w a b space room → ApartFrames t w b a room space
   turned w a b space room p = record {
     reading = sym (p .reading);
     one = p .two;
@@ -196,12 +199,12 @@ module _ (t : Table) where
     deciders = λ k. p .deciders (sym k);
   }
 
-  first : (w : Words) (x y : Item) → Shaped w → Apart t w x y → tell t (go t w y) x ≡ tell t w x
+  first : (w : Lent) (x y : Item) → Shaped w → Apart t w x y → tell t (go t w y) x ≡ tell t w x
   first w (arrives a space) (arrives b room) h p = alone w b a room space h (turned w a b space room p)
   first w (arrives a space) (switches n) h p = absurd p
   first w (switches n) y h p = absurd p
 
-  second : (w : Words) (x y : Item) → Shaped w → Apart t w x y → tell t (go t w x) y ≡ tell t w y
+  second : (w : Lent) (x y : Item) → Shaped w → Apart t w x y → tell t (go t w x) y ≡ tell t w y
   second w (arrives a space) (arrives b room) h p = alone w a b space room h p
   second w (arrives a space) (switches n) h p = absurd p
   second w (switches n) y h p = absurd p

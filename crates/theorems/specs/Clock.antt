@@ -5,6 +5,7 @@ use mathlib.Core.Path.{_≡_}
 use mathlib.Core.List.{List, [], _∷_, map}
 use Rattle.numbers.specs.Lists.{ends, said}
 use Rattle.layers.specs.Layers.{shownOf}
+use Rattle.layers.specs.Seen.{seen}
 use Rattle.layers.specs.declared.Layers.{Layers}
 use Rattle.layers.specs.declared.Shown.the-variants as shown
 use Rattle.table.specs.declared.Table.{Table}
@@ -12,14 +13,14 @@ use Rattle.table.specs.declared.Bucket.the-variants as bucket
 use Rattle.table.specs.declared.Tracking.the-variants as tracking
 use Rattle.table.specs.Table.{ruleAt, bucketOf, trackingOf}
 use Rattle.matching.specs.Matching.{deciderOf}
-use Rattle.records.specs.Records.{Words, recordsOf, default, Shaped}
-use Rattle.steps.specs.Steps.{Arrival}
+use Rattle.records.specs.Records.{Lent, recordsOf, default, Shaped}
+use Rattle.steps.specs.Steps.{Arrival, arrival}
 use Rattle.firewall.specs.Firewall.{After, judgeOf}
-use Rattle.theorems.specs.Run.{arrival, Item, arrives, switches, go, tell}
+use Rattle.theorems.specs.Run.{Item, arrives, switches, go, tell}
 use Rattle.theorems.specs.Statements.{isAnswer}
 
 -- words that differ in the last reading alone
-pub record ButLast (v w : Words) : Type 0 where
+pub record ButLast (v w : Lent) : Type 0 where
   pub state : recordsOf v .state ≡ recordsOf w .state
   pub rules : recordsOf v .rules ≡ recordsOf w .rules
 
@@ -34,7 +35,7 @@ pub record SameButLast (x y : After) : Type 0 where
 
 abbrev pub ClockBack : Type 0
 ClockBack =
-    (t : Table) (w : Words) (reading : ℕ) (bytes space : List ℕ) → Shaped w → reading ≤ recordsOf w .last
+    (t : Table) (w : Lent) (reading : ℕ) (bytes space : List ℕ) → Shaped w → reading ≤ recordsOf w .last
     → SameButLast (judgeOf t w (arrival reading bytes) space) (judgeOf t w (arrival (recordsOf w .last) bytes) space)
 
 -- the default, or a rule without bucket and tracking
@@ -44,8 +45,8 @@ Plain t d = d < default → (bucketOf (ruleAt t d) ≡ bucket.Unset) × (trackin
 -- a frame that such a decider decides is answered alike at every reading
 abbrev pub ClockFree : Type 0
 ClockFree =
-    (t : Table) (w : Words) (bytes space : List ℕ) (l : Layers) → shownOf bytes ≡ shown.Shows l
-    → Plain t (deciderOf t (recordsOf w .state) bytes l)
+    (t : Table) (w : Lent) (bytes space : List ℕ) (l : Layers) → shownOf bytes ≡ shown.Shows l
+    → Plain t (deciderOf t (recordsOf w .state) (seen bytes l))
     → (n m : ℕ)
     → (judgeOf t w (arrival n bytes) space .said ≡ judgeOf t w (arrival m bytes) space .said)
     × (judgeOf t w (arrival n bytes) space .space ≡ judgeOf t w (arrival m bytes) space .space)
@@ -53,31 +54,31 @@ ClockFree =
 -- ---- a run
 
 -- "Elapsed = reading less last reading, or 0 if it went back"
-abbrev pub elapsed : Words → Arrival → ℕ
+abbrev pub elapsed : Lent → Arrival → ℕ
 elapsed w a = a .reading - recordsOf w .last
 
 -- one call at two clocks: the same frame and event space after the same elapsed time; or the same switch
-abbrev pub AlikeCall : Words → Words → Item → Item → Type 0
+abbrev pub AlikeCall : Lent → Lent → Item → Item → Type 0
 AlikeCall v w (arrives a space) (arrives b room) = (a .bytes ≡ b .bytes) × (space ≡ room) × (elapsed v a ≡ elapsed w b)
 AlikeCall v w (arrives a space) (switches n) = ⊥
 AlikeCall v w (switches m) (arrives b room) = ⊥
 AlikeCall v w (switches m) (switches n) = m ≡ n
 
 -- call by call, from the words that each run has reached
-abbrev pub AlikeRun : Table → Words → Words → List Item → List Item → Type 0
+abbrev pub AlikeRun : Table → Lent → Lent → List Item → List Item → Type 0
 AlikeRun t v w [] [] = Unit {0}
 AlikeRun t v w [] (y ∷ ys) = ⊥
 AlikeRun t v w (x ∷ xs) [] = ⊥
 AlikeRun t v w (x ∷ xs) (y ∷ ys) = AlikeCall v w x y × AlikeRun t (go t v x) (go t w y) xs ys
 
--- every call of one run says and writes what that of the other does, and the words at the end differ in the last reading alone
-abbrev pub SameRun : Table → Words → Words → List Item → List Item → Type 0
+-- every call of one run says and says what that of the other does, and the words at the end differ in the last reading alone
+abbrev pub SameRun : Table → Lent → Lent → List Item → List Item → Type 0
 SameRun t v w xs ys = (said (go t) (tell t) v xs ≡ said (go t) (tell t) w ys) × ButLast (ends (go t) v xs) (ends (go t) w ys)
 
 -- Of the clock a run sees the elapsed times alone; for every table and record, good or refused
 abbrev pub ElapsedOnly : Type 0
 ElapsedOnly =
-    (t : Table) (v w : Words) (xs ys : List Item) → Shaped v → Shaped w → ButLast v w → AlikeRun t v w xs ys → SameRun t v w xs ys
+    (t : Table) (v w : Lent) (xs ys : List Item) → Shaped v → Shaped w → ButLast v w → AlikeRun t v w xs ys → SameRun t v w xs ys
 
 -- an item at a clock that shows n more; a reading is a plain number here, and may pass the highest that a call can take
 abbrev pub later : ℕ → Item → Item
@@ -88,6 +89,6 @@ later n (switches m) = switches m
 -- is answered as at a clock that shows the last reading at that frame and goes on from there
 abbrev pub ClockReset : Type 0
 ClockReset =
-    (t : Table) (w : Words) (a : Arrival) (space : List ℕ) (items : List Item) → Shaped w → a .reading ≤ recordsOf w .last
+    (t : Table) (w : Lent) (a : Arrival) (space : List ℕ) (items : List Item) → Shaped w → a .reading ≤ recordsOf w .last
     → isAnswer (judgeOf t w a space .said) ≡ 1
     → let run = arrives a space ∷ items in SameRun t w w run (map (later (recordsOf w .last - a .reading)) run)

@@ -8,8 +8,8 @@ use mathlib.Core.Bool.{Bool, true, false, cond, _&&_, not}
 use mathlib.Core.List.{List}
 use lib.ListN.{length, getD}
 use lib.Dec.{ltb}
-use Rattle.numbers.specs.Lists.{first}
 use Rattle.layers.specs.Layers.{shownOf}
+use Rattle.layers.specs.Seen.{Seen}
 use Rattle.layers.specs.declared.Layers.{Layers}
 use Rattle.layers.specs.declared.Shown.the-variants as shown
 use Rattle.table.specs.declared.Rule.{Rule}
@@ -18,33 +18,35 @@ use Rattle.table.specs.declared.Tracking.{Tracking}
 use Rattle.table.specs.declared.Tracking.the-variants as tracking
 use Rattle.table.specs.Table.{ruleAt, stateAt, active, isAllow, bucketOf, trackingOf}
 use Rattle.matching.specs.Matching.{ruleMatches}
-use Rattle.records.specs.declared.FlagKind.{FlagKind}
-use Rattle.records.specs.declared.FlagKind.the-variants as kind
-use Rattle.records.specs.declared.Next.{Next}
-use Rattle.records.specs.declared.Next.the-variants as next
-use Rattle.records.specs.declared.Segment.{Segment}
-use Rattle.records.specs.Records.{Place, free, RuleRecord, Records, Words, recordsOf, recordAt}
-use Rattle.records.specs.Rule.{allowed, allowedByDefault, isFree, heldAt, nextOf, phaseOf, raised, over}
+use Rattle.conversations.specs.declared.FlagKind.{FlagKind}
+use Rattle.conversations.specs.declared.FlagKind.the-variants as kind
+use Rattle.conversations.specs.declared.Next.{Next}
+use Rattle.conversations.specs.declared.Next.the-variants as next
+use Rattle.conversations.specs.declared.Turn.{Turn}
+use Rattle.conversations.specs.Places.{Place, free}
+use Rattle.records.specs.Records.{RuleRecord, Records, Lent, recordsOf, recordAt}
+use Rattle.conversations.specs.Tracking.{freeAt, heldAt, nextOf, phaseOf}
+use Rattle.records.specs.Rule.{allowed, allowedByDefault, raised, over}
 use Rattle.records.specs.Step.{ticked}
-use Rattle.steps.specs.Steps.{Arrival, segmentOf}
+use Rattle.steps.specs.Steps.{Arrival, seenOf, turnOf}
 use Rattle.firewall.specs.Firewall.{answered, judgeOf}
 
--- ---- "the first active rule that matches it"; s is the frame's bytes, and l the layers that were read from them
+-- ---- "the first active rule that matches it"; x is what is seen of the frame
 
 -- an active rule that matches, by its place
-pub record Matches (t : Table) (state : ℕ) (s : List ℕ) (l : Layers) (i : ℕ) : Type 0 where
+pub record Matches (t : Table) (state : ℕ) (x : Seen) (i : ℕ) : Type 0 where
   pub rule : i < t .rulecount
   pub marked : active t state i ≡ true
-  pub agrees : ruleMatches (ruleAt t i) s l ≡ true
+  pub agrees : ruleMatches (ruleAt t i) x ≡ true
 
 -- the first of them
-pub record FirstMatch (t : Table) (state : ℕ) (s : List ℕ) (l : Layers) (i : ℕ) : Type 0 where
-  pub matches : Matches t state s l i
-  pub first : (j : ℕ) → j < i → Matches t state s l j → ⊥
+pub record FirstMatch (t : Table) (state : ℕ) (x : Seen) (i : ℕ) : Type 0 where
+  pub matches : Matches t state x i
+  pub first : (j : ℕ) → j < i → Matches t state x j → ⊥
 
 -- there is none
-abbrev pub NoMatch : Table → ℕ → List ℕ → Layers → Type 0
-NoMatch t state s l = (j : ℕ) → Matches t state s l j → ⊥
+abbrev pub NoMatch : Table → ℕ → Seen → Type 0
+NoMatch t state x = (j : ℕ) → Matches t state x j → ⊥
 
 -- ---- "that rule's rate limit and TCP tracking hold"
 
@@ -66,43 +68,38 @@ opens kind.End = false
 opens kind.Reset = false
 opens kind.Wrong = false
 
--- the first free place, or the number of the rule's places where none is free
-abbrev pub freeAt : ℕ → List Place → ℕ
-freeAt n ps = first (λ j. isFree (getD ps j free)) n
-
 -- there is no tracking; the frame's conversation is held and goes on; or it is not held, the frame opens it and a place is free
-abbrev pub trackingHolds : Tracking → Segment → List Place → Bool
+abbrev pub trackingHolds : Tracking → Turn → List Place → Bool
 trackingHolds tracking.Unset g ps = true
 trackingHolds (tracking.Set m) g ps =
     let i = heldAt (g .quad) ps in
     cond (ltb i (length ps))
     (goesOn (nextOf (phaseOf (getD ps i free .state)) (g .kind)))
-    (opens (g .kind) && ltb (freeAt (m .places) ps) (m .places))
+    (opens (g .kind) && ltb (freeAt ps (m .places)) (m .places))
 
 -- ---- "A frame passes exactly when .."
 
 -- by a rule, at the records aged to the frame's reading
-pub record ByRule (t : Table) (s : Records) (a : Arrival) (l : Layers) : Type 0 where
+pub record ByRule (t : Table) (s : Records) (reading : ℕ) (x : Seen) : Type 0 where
   pub place : ℕ
-  pub first : FirstMatch t (s .state) (a .bytes) l place
+  pub first : FirstMatch t (s .state) x place
   pub allows : isAllow (ruleAt t place .action) ≡ true
-  pub rate : rateHolds (ruleAt t place) (recordAt (ticked t (a .reading) s) place) ≡ true
+  pub rate : rateHolds (ruleAt t place) (recordAt (ticked t reading s) place) ≡ true
   pub tracks :
-      trackingHolds (trackingOf (ruleAt t place)) (segmentOf (l .ip) (l .transport)) (recordAt (ticked t (a .reading) s) place .places)
-      ≡ true
+      trackingHolds (trackingOf (ruleAt t place)) (turnOf x) (recordAt (ticked t reading s) place .places) ≡ true
 
 -- by the default
-pub record ByDefault (t : Table) (s : Records) (a : Arrival) (l : Layers) : Type 0 where
-  pub none : NoMatch t (s .state) (a .bytes) l
+pub record ByDefault (t : Table) (s : Records) (x : Seen) : Type 0 where
+  pub none : NoMatch t (s .state) x
   pub allows : isAllow (stateAt t (s .state) .default) ≡ true
 
 -- verdict 0 exactly by a rule, verdict 1 exactly by the default
-abbrev pub Exactly : Table → Records → Arrival → Layers → ℕ → Type 0
-Exactly t s a l v = ((v ≡ allowed) ↔ ByRule t s a l) × ((v ≡ allowedByDefault) ↔ ByDefault t s a l)
+abbrev pub Exactly : Table → Records → ℕ → Seen → ℕ → Type 0
+Exactly t s reading x v = ((v ≡ allowed) ↔ ByRule t s reading x) × ((v ≡ allowedByDefault) ↔ ByDefault t s x)
 
 -- of every judged frame
 abbrev pub PassesExactly : Type 0
 PassesExactly =
-    (t : Table) (w : Words) (a : Arrival) (space : List ℕ) (l : Layers) (v id n : ℕ) → shownOf (a .bytes) ≡ shown.Shows l
+    (t : Table) (w : Lent) (a : Arrival) (space : List ℕ) (l : Layers) (v id n : ℕ) → shownOf (a .bytes) ≡ shown.Shows l
     → judgeOf t w a space .said ≡ answered v id n
-    → Exactly t (recordsOf w) a l v
+    → Exactly t (recordsOf w) (a .reading) (seenOf a l) v

@@ -11,13 +11,11 @@ use Rattle.layers.specs.declared.Layers.{Layers}
 use Rattle.layers.specs.declared.Shown.the-variants as shown
 use Rattle.table.specs.declared.Table.{Table}
 use Rattle.matching.specs.Matching.{deciderOf}
-use Rattle.records.specs.Records.{Words, recordsOf, Shaped}
+use Rattle.records.specs.Records.{Lent, recordsOf, Shaped}
 use Rattle.records.specs.Good.{recordsGood}
-use Rattle.steps.specs.Steps.{Arrival}
+use Rattle.events.specs.Events.{eventRoom}
+use Rattle.steps.specs.Steps.{Arrival, seenOf}
 use Rattle.firewall.specs.Firewall.{Said, switchOf, judgeOf}
-
-abbrev pub arrival : ℕ → List ℕ → Arrival
-arrival reading bytes = record { reading = reading; bytes = bytes }
 
 -- a frame that arrives, with the event space as the call finds it; or a switch of vehicle state
 pub data Item : Type 0 where
@@ -25,7 +23,7 @@ pub data Item : Type 0 where
   switches : ℕ → Item
 
 -- the words after a call
-unfoldable pub go : Table → Words → Item → Words
+unfoldable pub go : Table → Lent → Item → Lent
 go t w (arrives a space) = judgeOf t w a space .words
 go t w (switches state) = switchOf t state w .words
 
@@ -34,12 +32,12 @@ pub record Told : Type 0 where
   pub said : Said
   pub space : List ℕ
 
-unfoldable pub tell : Table → Words → Item → Told
+unfoldable pub tell : Table → Lent → Item → Told
 tell t w (arrives a space) = record { said = judgeOf t w a space .said; space = judgeOf t w a space .space }
 tell t w (switches state) = record { said = switchOf t state w .said; space = [] }
 
 -- words as the arrays have them, that are no bad record
-pub record Good (t : Table) (w : Words) : Type 0 where
+pub record Good (t : Table) (w : Lent) : Type 0 where
   pub shaped : Shaped w
   pub good : recordsGood t (recordsOf w) ≡ true
 
@@ -62,19 +60,19 @@ module _ {S X : Type 0} (May : S → X → X → Type 0) (go : S → X → S) wh
 -- the frame shows the layers l, and its call has space for an event: it is judged
 pub record Judges (a : Arrival) (space : List ℕ) (l : Layers) : Type 0 where
   pub shows : shownOf (a .bytes) ≡ shown.Shows l
-  pub room : 256 ≤ length space
+  pub room : eventRoom ≤ length space
 
 -- two judged frames at one reading, which two deciders decide in the active state
-pub record ApartFrames (t : Table) (w : Words) (a b : Arrival) (space room : List ℕ) : Type 0 where
+pub record ApartFrames (t : Table) (w : Lent) (a b : Arrival) (space room : List ℕ) : Type 0 where
   pub reading : a .reading ≡ b .reading
   pub one : Layers
   pub two : Layers
   pub first : Judges a space one
   pub second : Judges b room two
-  pub deciders : deciderOf t (recordsOf w .state) (a .bytes) one ≡ deciderOf t (recordsOf w .state) (b .bytes) two → ⊥
+  pub deciders : deciderOf t (recordsOf w .state) (seenOf a one) ≡ deciderOf t (recordsOf w .state) (seenOf b two) → ⊥
 
 -- a switch may stand in a run and never changes places
-abbrev pub Apart : Table → Words → Item → Item → Type 0
+abbrev pub Apart : Table → Lent → Item → Item → Type 0
 Apart t w (arrives a space) (arrives b room) = ApartFrames t w a b space room
 Apart t w (arrives a space) (switches state) = ⊥
 Apart t w (switches state) x = ⊥

@@ -1,178 +1,27 @@
--- Document 01, 'Worked set': the table T, the frames, and M1 to M11 as one list of examples with what each expects.
+-- Document 01, 'Worked set': M1 to M11 as one list of examples with what each expects, and the page that shows them.
 -- Assumes nothing.
-use Prim.Native.Nat.{ℕ, zero, suc, _+_, _-_, _*_, _/_, _%_, _^_}
+use Prim.Native.Nat.{ℕ, suc, _+_, _-_, _*_}
+use mathlib.Core.Path.{_≡_}
+use mathlib.Core.Bool.{Bool, true, false}
 use mathlib.Core.List.{List, [], _∷_, _++_, map}
-use lib.ListN.{length, getD, set, take, drop}
+use lib.ListN.{length, getD, set, take}
 use Rattle.numbers.specs.Lists.{copies, ends, said}
 use Rattle.layers.specs.Layers.{layersOf}
 use Rattle.layers.specs.declared.Ip.{Ip}
 use Rattle.layers.specs.declared.Ip.the-variants as ip
-use Rattle.table.specs.declared.Action.the-variants as action
-use Rattle.table.specs.declared.Kind.the-variants as kind
-use Rattle.table.specs.declared.Setting8.the-variants as set8
-use Rattle.table.specs.declared.Setting16.the-variants as set16
-use Rattle.table.specs.declared.Setting32.the-variants as set32
-use Rattle.table.specs.declared.Setting64.the-variants as set64
-use Rattle.table.specs.declared.KindSetting.the-variants as setKind
-use Rattle.table.specs.declared.RangeSetting.{RangeSetting}
-use Rattle.table.specs.declared.RangeSetting.the-variants as setRange
-use Rattle.table.specs.declared.PrefixSetting.the-variants as setPrefix
-use Rattle.table.specs.declared.LinkSettings.{LinkSettings}
-use Rattle.table.specs.declared.Rule.{Rule}
-use Rattle.table.specs.declared.Table.{Table}
-use Rattle.table.specs.Table.{noRule, noState}
-use Rattle.records.specs.Records.{Place, free, RuleRecord, Words, default, recordAt, recordsOf, wordsOf}
+use Rattle.conversations.specs.Places.{mostPlaces, Place, free, nothing}
+use Rattle.records.specs.Records.{RuleRecord, Lent, default, recordAt, recordsOf, wordsOf}
 use Rattle.records.specs.Step.{freshOf}
-use Rattle.firewall.specs.Firewall.{Said, refused, answered}
+use Rattle.events.specs.Events.{eventRoom}
+use Rattle.steps.specs.Steps.{arrival}
+use Rattle.firewall.specs.Firewall.{Said, refused, plain, answered}
+use Rattle.paper.specs.declared.Expected.{Expected}
+use Rattle.paper.specs.declared.Expected.the-variants as expected
+use Rattle.paper.specs.declared.Line.{Line}
+use Rattle.paper.specs.Frames.{hex, frameA, padded, withType, withPort, frame0806, ack1, synAck1, syn1, syn2, syn3, first13, tagged17, frameBytes}
+use Rattle.paper.specs.TableT.{at10, at20, at30, at40, tableT}
+use Rattle.paper.specs.Worked.{lines}
 use Rattle.theorems.specs.Run.{Item, arrives, switches, go, Told, tell}
-
--- ---- Table T, "default block, all active"
-
--- an ether type and no other link setting; a range of ports
-abbrev pub ethers : ℕ → LinkSettings
-ethers v = record { destination = set64.Unset; source = set64.Unset; vlan = set16.Unset; priority = set8.Unset; ether = set16.Set v }
-
-abbrev pub range : ℕ → ℕ → RangeSetting
-range low high = setRange.Set (record { low = low; high = high })
-
--- "10 allow, ether 0x0800, source 10.0.0.0/8, UDP destination 30501-30501, service 0x1000, type 0x80"
-abbrev pub rule10 : Rule
-rule10 = record {
-  id = 10;
-  action = action.Allow;
-  link = ethers 0x0800;
-  ipv4 = record { source = setPrefix.Set (record { address = 0x0a000000; length = 8 }); destination = setPrefix.Unset; protocol = set8.Unset };
-  transport = record { kind = setKind.Set kind.Udp; source = setRange.Unset; destination = range 30501 30501 };
-  someip = record { service = set16.Set 0x1000; method = set16.Unset; version = set8.Unset; kind = set8.Set 0x80; code = set8.Unset };
-  rate = noRule .rate;
-  tracking = noRule .tracking;
-}
-
--- "20 allow, TCP source 443-443, 2 places, limit 1,000"
-abbrev pub rule20 : Rule
-rule20 = record {
-  id = 20;
-  action = action.Allow;
-  link = noRule .link;
-  ipv4 = noRule .ipv4;
-  transport = record { kind = setKind.Set kind.Tcp; source = range 443 443; destination = setRange.Unset };
-  someip = noRule .someip;
-  rate = noRule .rate;
-  tracking = record { places = set8.Set 2; limit = set32.Set 1000 };
-}
-
--- "30 allow, ether 0x0806, size 2, refill 1"
-abbrev pub rule30 : Rule
-rule30 = record {
-  id = 30;
-  action = action.Allow;
-  link = ethers 0x0806;
-  ipv4 = noRule .ipv4;
-  transport = noRule .transport;
-  someip = noRule .someip;
-  rate = record { size = set16.Set 2; refill = set16.Set 1 };
-  tracking = noRule .tracking;
-}
-
--- "40 block, UDP destination 0-1023"
-abbrev pub rule40 : Rule
-rule40 = record {
-  id = 40;
-  action = action.Block;
-  link = noRule .link;
-  ipv4 = noRule .ipv4;
-  transport = record { kind = setKind.Set kind.Udp; source = setRange.Unset; destination = range 0 1023 };
-  someip = noRule .someip;
-  rate = noRule .rate;
-  tracking = noRule .tracking;
-}
-
-unfoldable pub tableT : Table
-tableT = record {
-  rulecount = 4;
-  rules = rule10 ∷ rule20 ∷ rule30 ∷ rule40 ∷ copies 60 noRule;
-  statecount = 1;
-  states = record { default = action.Block; marks = 0b1111 } ∷ copies 7 noState;
-}
-
--- the rules' places in the table
-abbrev pub at10 : ℕ
-at10 = 0
-
-abbrev pub at20 : ℕ
-at20 = 1
-
-abbrev pub at30 : ℕ
-at30 = 2
-
-abbrev pub at40 : ℕ
-at40 = 3
-
--- ---- the frames
-
--- n bytes, as a number that is printed in hexadecimal shows them
-unfoldable pub hex : ℕ → ℕ → List ℕ
-hex zero v = []
-hex (suc n) v = v / 256 ^ n % 256 ∷ hex n v
-
--- "Frame A (003, figure 6.7)"
-unfoldable pub frameA : List ℕ
-frameA =
-    hex 6 0x021bbbbbbbbb
-    ++ hex 6 0x021aaaaaaaaa
-    ++ hex 2 0x0800
-    ++ hex 20 0x4500003a00010000401166b00a0000010a010001
-    ++ hex 8 0x771b77250026e8b9
-    ++ hex 14 0x1000011100000016000100030101
-    ++ hex 2 0x8000
-    ++ hex 14 0x3433393741303842373530303436
-
--- zero bytes added
-unfoldable pub padded : ℕ → List ℕ
-padded n = frameA ++ copies n 0
-
--- "A with type": the message type is byte 56
-unfoldable pub withType : ℕ → List ℕ
-withType v = set frameA 56 v
-
--- "A with destination port": bytes 36 and 37
-unfoldable pub withPort : ℕ → List ℕ
-withPort v = take 36 frameA ++ hex 2 v ++ drop 38 frameA
-
--- an 0x0806 frame of 60 bytes: who has 10.1.0.1, tell 10.0.0.1
-unfoldable pub frame0806 : List ℕ
-frame0806 =
-    hex 6 0xffffffffffff
-    ++ hex 6 0x021aaaaaaaaa
-    ++ hex 2 0x0806
-    ++ hex 28 0x0001080006040001021aaaaaaaaa0a0000010000000000000a010001
-    ++ hex 18 0
-
--- a TCP frame of 60 bytes from 10.0.0.2 to 10.1.0.1, the last 6 of them padding, by its TCP header of 20 bytes; all checksums are right
-unfoldable pub tcp : ℕ → List ℕ
-tcp header =
-    hex 6 0x021bbbbbbbbb
-    ++ hex 6 0x021aaaaaaaaa
-    ++ hex 2 0x0800
-    ++ hex 20 0x4500002800024000400626cb0a0000020a010001
-    ++ hex 20 header
-    ++ hex 6 0
-
--- from port 443 to 50,001, 50,002 and 50,003, with the flags in the name
-unfoldable pub ack1 : List ℕ
-ack1 = tcp 0x01bbc35100000000000000005010400096c40000
-
-unfoldable pub synAck1 : List ℕ
-synAck1 = tcp 0x01bbc35100000000000000005012400096c20000
-
-unfoldable pub syn1 : List ℕ
-syn1 = tcp 0x01bbc35100000000000000005002400096d20000
-
-unfoldable pub syn2 : List ℕ
-syn2 = tcp 0x01bbc35200000000000000005002400096d10000
-
-unfoldable pub syn3 : List ℕ
-syn3 = tcp 0x01bbc35300000000000000005002400096d00000
 
 -- ---- what an example says
 
@@ -211,19 +60,19 @@ pub record Example : Type 0 where
 
 -- the event space of every call: 256 bytes, none of them zero
 unfoldable pub eventSpace : List ℕ
-eventSpace = copies 256 0xEE
+eventSpace = copies eventRoom 0xEE
 
 -- a frame at a reading: a refusal, or the answer's verdict, rule id and event length; the event; what to look at
 abbrev pub judged : ℕ → List ℕ → Said → List ℕ → List (Look × ℕ) → Step
 judged reading frame said event looks =
-    record { item = arrives (record { reading = reading; bytes = frame }) eventSpace; said = said; event = event; looks = looks }
+    record { item = arrives (arrival reading frame) eventSpace; said = said; event = event; looks = looks }
 
 -- the record of a rule without tracking: level, passed, blocked; of one that holds conversations; of the default
 abbrev pub counts : ℕ → ℕ → ℕ → RuleRecord
-counts level passed blocked = record { level = level; passed = passed; blocked = blocked; places = copies 8 free }
+counts level passed blocked = record { level = level; passed = passed; blocked = blocked; places = copies mostPlaces free }
 
 abbrev pub holding : ℕ → ℕ → List Place → RuleRecord
-holding passed blocked places = record { level = 0; passed = passed; blocked = blocked; places = places ++ copies (8 - length places) free }
+holding passed blocked places = record { level = 0; passed = passed; blocked = blocked; places = places ++ copies (mostPlaces - length places) free }
 
 abbrev pub byDefault : ℕ → ℕ → RuleRecord
 byDefault passed blocked = record { level = 0; passed = passed; blocked = blocked; places = [] }
@@ -234,6 +83,7 @@ conversation port state age = record {
   state = state;
   quad = record { source = 0x0a000002; destination = 0x0a010001; ports = 443 * 65536 + port };
   age = age;
+  unused = nothing;
 }
 
 -- ---- the examples
@@ -375,10 +225,10 @@ unfoldable pub m10 : Example
 m10 = record {
   start = 0;
   runs =
-      (judged 1 (take 13 frameA) (refused 1 0) [] []
-      ∷ judged 2 (take 12 frameA ++ hex 5 0x8100000108) (refused 1 0) [] []
+      (judged 1 first13 (refused (plain 1)) [] []
+      ∷ judged 2 tagged17 (refused (plain 1)) [] []
       ∷ judged 3 (padded 1446) (answered 0 10 0) [] []
-      ∷ judged 4 (padded 1447) (refused 2 0) [] []
+      ∷ judged 4 (padded 1447) (refused (plain 2)) [] []
       ∷ [])
       ∷ [];
   last = 3;
@@ -403,14 +253,14 @@ worked = m1 ∷ m2 ∷ m3 ∷ m4 ∷ m5 ∷ m6 ∷ m7 ∷ m8 ∷ m9 ∷ m10 ∷ 
 -- ---- what comes of the examples, and what is expected of them
 
 -- of one call: what it says, its event space afterwards, and the values looked at
-pub record Seen : Type 0 where
+pub record Looked : Type 0 where
   pub told : Told
   pub values : List ℕ
 
 -- of one run: each call, and the words at the end
 pub record Ran : Type 0 where
-  pub calls : List Seen
-  pub words : Words
+  pub calls : List Looked
+  pub words : Lent
 
 -- the values looked at
 abbrev pub present : Ip → ℕ
@@ -421,35 +271,35 @@ abbrev pub ipv4In : Item → ℕ
 ipv4In (arrives a space) = present (layersOf (a .bytes) .ip)
 ipv4In (switches state) = 0
 
-abbrev pub placeAt : Words → ℕ → ℕ → Place
+abbrev pub placeAt : Lent → ℕ → ℕ → Place
 placeAt w i j = getD (recordAt (recordsOf w) i .places) j free
 
-abbrev pub valueOf : Item → Words → Look → ℕ
+abbrev pub valueOf : Item → Lent → Look → ℕ
 valueOf x w ipv4-there = ipv4In x
 valueOf x w (level-of i) = recordAt (recordsOf w) i .level
 valueOf x w (state-of i j) = placeAt w i j .state
 valueOf x w (age-of i j) = placeAt w i j .age
 
 -- each run starts from the words of a fresh record
-abbrev pub next : Words → Step → Words
+abbrev pub next : Lent → Step → Lent
 next w x = go tableT w (x .item)
 
-abbrev pub valuesIn : Words → Step → List ℕ
+abbrev pub valuesIn : Lent → Step → List ℕ
 valuesIn w x = map (λ l. valueOf (x .item) w (l .0)) (x .looks)
 
-abbrev pub see : Words → Step → Seen
+abbrev pub see : Lent → Step → Looked
 see w x = record { told = tell tableT w (x .item); values = valuesIn (next w x) x }
 
-abbrev pub ran : Words → List Step → Ran
+abbrev pub ran : Lent → List Step → Ran
 ran w steps = record { calls = said next see w steps; words = ends next w steps }
 
 unfoldable pub outcomes : List Example → List (List Ran)
 outcomes l = map (λ x. map (ran (wordsOf (freshOf (x .start)))) (x .runs)) l
 
 -- the event at the start of the space, whose other bytes stay
-abbrev pub expectedOf : Step → Seen
+abbrev pub expectedOf : Step → Looked
 expectedOf x = record {
-  told = record { said = x .said; space = x .event ++ copies (256 - length (x .event)) 0xEE };
+  told = record { said = x .said; space = x .event ++ copies (eventRoom - length (x .event)) 0xEE };
   values = map (λ l. l .1) (x .looks);
 }
 
@@ -457,7 +307,7 @@ abbrev pub withRules : List (ℕ × RuleRecord) → List RuleRecord → List Rul
 withRules [] l = l
 withRules (c ∷ cs) l = withRules cs (set l (c .0) (c .1))
 
-abbrev pub wordsAt : ℕ → List (ℕ × RuleRecord) → Words
+abbrev pub wordsAt : ℕ → List (ℕ × RuleRecord) → Lent
 wordsAt last changed =
     wordsOf (record { last = last; state = 0; rules = withRules changed (freshOf last .rules) })
 
@@ -466,3 +316,72 @@ expectedRun x steps = record { calls = map expectedOf steps; words = wordsAt (x 
 
 unfoldable pub expectations : List Example → List (List Ran)
 expectations l = map (λ x. map (expectedRun x) (x .runs)) l
+
+-- ---- the page: what a person reads is these examples
+
+-- a call as a line shows it: its example's number, whether a fresh record comes first, the reading of that record and of the call,
+-- the frame's bytes, what is said, and the start of the event: its number and the rule that it names
+pub record Call : Type 0 where
+  pub example : ℕ
+  pub fresh : Bool
+  pub start : ℕ
+  pub reading : ℕ
+  pub bytes : List ℕ
+  pub said : Said
+  pub heading : List ℕ
+
+abbrev pub readingIn : Item → ℕ
+readingIn (arrives a space) = a .reading
+readingIn (switches state) = 0
+
+abbrev pub bytesIn : Item → List ℕ
+bytesIn (arrives a space) = a .bytes
+bytesIn (switches state) = []
+
+abbrev pub callOf : ℕ → ℕ → Bool → Step → Call
+callOf n start fresh x = record {
+  example = n;
+  fresh = fresh;
+  start = start;
+  reading = readingIn (x .item);
+  bytes = bytesIn (x .item);
+  said = x .said;
+  heading = take 4 (x .event);
+}
+
+-- the calls of the runs of one example, one after the other: a run starts with a fresh record
+abbrev pub callsIn : ℕ → ℕ → List (List Step) → List Call
+callsIn n start [] = []
+callsIn n start ([] ∷ runs) = callsIn n start runs
+callsIn n start ((x ∷ run) ∷ runs) = callOf n start true x ∷ (map (callOf n start false) run ++ callsIn n start runs)
+
+-- the calls of the examples, one after the other, which are numbered from n on
+unfoldable pub callsFrom : ℕ → List Example → List Call
+callsFrom n [] = []
+callsFrom n (x ∷ l) = callsIn n (x .start) (x .runs) ++ callsFrom (suc n) l
+
+-- what a line of the page says of its call
+abbrev pub saidOf : Expected → Said
+saidOf (expected.Refused n) = refused (plain n)
+saidOf (expected.Quiet verdict rule) = answered verdict rule 0
+saidOf (expected.Event verdict rule number named length) = answered verdict rule length
+
+abbrev pub headingOf : Expected → List ℕ
+headingOf (expected.Refused n) = []
+headingOf (expected.Quiet verdict rule) = []
+headingOf (expected.Event verdict rule number named length) = hex 2 number ++ hex 2 named
+
+abbrev pub shown : Line → Call
+shown l = record {
+  example = l .example;
+  fresh = l .fresh;
+  start = 0;
+  reading = l .reading;
+  bytes = frameBytes (l .frame);
+  said = saidOf (l .expected);
+  heading = headingOf (l .expected);
+}
+
+-- the calls of M1 to M11 are the lines of the page
+abbrev pub PageRight : Type 0
+PageRight = callsFrom 1 worked ≡ map shown lines

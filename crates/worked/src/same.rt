@@ -1,16 +1,36 @@
 // Two records compared, word by word.
+use conversations::PLACES;
+use conversations::RulePlaces;
+use records::ACTIVE;
+use records::BLOCKED;
+use records::COUNT_ROWS;
+use records::CountWords;
 use records::Counts;
 use records::Head;
+use records::LAST;
+use records::LEVEL;
+use records::PASSED;
 use records::Places;
+use table::RULES;
 
-fn place(a: &[u32; 5], b: &[u32; 5]) -> bool {
-    (a[0] == b[0]) & (a[1] == b[1]) & (a[2] == b[2]) & (a[3] == b[3]) & (a[4] == b[4])
+fn words(a: &[u64], b: &[u64]) -> bool {
+    let mut i = 0;
+    while i < a.len() {
+        if b.len() <= i {
+            return false;
+        }
+        if a[i] != b[i] {
+            return false;
+        }
+        i += 1;
+    }
+    true
 }
 
-fn rule(a: &[[u32; 5]; 8], b: &[[u32; 5]; 8]) -> bool {
+fn rule(a: &RulePlaces, b: &RulePlaces) -> bool {
     let mut j = 0;
-    while j < 8 {
-        if !place(&a[j], &b[j]) {
+    while j < PLACES {
+        if !words(&a[j], &b[j]) {
             return false;
         }
         j += 1;
@@ -20,7 +40,7 @@ fn rule(a: &[[u32; 5]; 8], b: &[[u32; 5]; 8]) -> bool {
 
 fn held(a: &Places, b: &Places) -> bool {
     let mut k = 0;
-    while k < 64 {
+    while k < RULES {
         if !rule(&a[k], &b[k]) {
             return false;
         }
@@ -29,13 +49,13 @@ fn held(a: &Places, b: &Places) -> bool {
     true
 }
 
-fn row(a: &[u32; 3], b: &[u32; 3]) -> bool {
-    (a[0] == b[0]) & (a[1] == b[1]) & (a[2] == b[2])
+fn row(a: &CountWords, b: &CountWords) -> bool {
+    (a[LEVEL] == b[LEVEL]) & (a[PASSED] == b[PASSED]) & (a[BLOCKED] == b[BLOCKED])
 }
 
 fn counted(a: &Counts, b: &Counts) -> bool {
     let mut k = 0;
-    while k < 65 {
+    while k < COUNT_ROWS {
         if !row(&a[k], &b[k]) {
             return false;
         }
@@ -52,5 +72,8 @@ pub(crate) fn records(
     counts2: &Counts,
     places2: &Places,
 ) -> bool {
-    (head[0] == head2[0]) & (head[1] == head2[1]) & counted(counts, counts2) & held(places, places2)
+    (head[LAST] == head2[LAST])
+        & (head[ACTIVE] == head2[ACTIVE])
+        & counted(counts, counts2)
+        & held(places, places2)
 }

@@ -59,15 +59,15 @@ same-length c = search needs
 returns : tie.Need-returns
 returns c =
     let a = c .before .before .before .before .before .before .before .before .before .before .before .before .before .before .before .args in
-    let stop = c .before .before .before .before .before .length in (
-      stop .ensures ∙ sym (event-length (a .e) (a .id) (now (a .frame)) (a .l)),
-      event-laid (a .e) (a .id) (now (a .frame)) (a .l) (now (a .space)) (c .before .before .before .before .before .before .before .before .before .before .head .last .1 .1 .0) _ (stop .result) (c .before .before .before .before .before .before .before .span-of .result)
+    let stop = c .before .before .before .before .before .length in record {
+      count = stop .ensures ∙ sym (event-length (a .e) (a .id) (now (a .frame)) (a .l));
+      left = event-laid (a .e) (a .id) (now (a .frame)) (a .l) (now (a .space)) (c .before .before .before .before .before .before .before .before .before .before .head .last .1 .1 .0) _ (stop .result) (c .before .before .before .before .before .before .before .span-of .result)
           (c .before .before .before .before .before .before .before .before .before .before .before .before .before .before .before .pre .1 .1)
           (rw (← c .before .before .before .before .before .before .before .before .before .before .before .before .number .ensures) (c .before .before .before .before .before .before .before .before .before .before .head .ensures))
           (stop .ensures)
           (c .before .before .before .before .before .before .before .span-of .ensures)
-          (c .before .before .fill .ensures),
-    )
+          (c .before .before .fill .ensures);
+    }
 
 pub write-spec : {M : Type 1} → statement M
 write-spec =

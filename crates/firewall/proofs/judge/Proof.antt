@@ -25,7 +25,7 @@ returns c =
     c .before .before .judge-frame .ensures ∙ judge-frame _ _ _ _ (ap saidChecked (sym (c .before .before .before .before .before .before .before .enum-told .given .1)) ∙ c .before .before .before .before .before .before .before .before .before .check .ensures)
 
 returns-2 : tie.Need-returns-2
-returns-2 c = judge-refused _ _ _ _ _ _ (ap saidChecked (sym (c .before .checked .given .1)) ∙ c .before .before .before .check .ensures)
+returns-2 c = judge-refused _ _ _ _ _ (ap saidChecked (sym (c .before .checked .given .1)) ∙ c .before .before .before .check .ensures)
 
 pub judge-spec : {M : Type 1} → statement M
 judge-spec =

@@ -30,14 +30,19 @@ returns-2 c =
 step-requires : tie.Need-step-requires
 step-requires c κs =
     let p = c .before .before .before .before .before .before .before .before .before .before .before .pre in
-    (p .0, (p .1, (sym (c .before .before .before .before .before .before .before .before .read .ensures) ∙ c .before .before .before .before .before .before .l .given .1, c .before .before .before .before .if1 .left)))
+    record {
+      table = p .0;
+      records = p .1;
+      shows = sym (c .before .before .before .before .before .before .before .before .read .ensures) ∙ c .before .before .before .before .before .before .l .given .1;
+      room = c .before .before .before .before .if1 .left;
+    }
 
 same-length : tie.Need-same-length
 same-length c = search needs
 
 returns-3 : tie.Need-returns-3
 returns-3 c =
-    rw (← c .before .before .before .before .before .before .before .before .before .before .before .read .ensures) (frame-judged _ _ _ _ _ _ _ (c .before .before .before .before .before .before .before .before .before .l .given .1) (c .before .before .before .before .before .before .before .if1 .left) (c .before .before .step .ensures .0))
+    rw (← c .before .before .before .before .before .before .before .before .before .before .before .read .ensures) (frame-judged _ _ _ _ _ _ _ _ _ (c .before .before .before .before .before .before .before .before .before .l .given .1) (c .before .before .before .before .before .before .before .if1 .left) (c .before .before .step .ensures .0))
 
 pub judge-frame-spec : {M : Type 1} → statement M
 judge-frame-spec =

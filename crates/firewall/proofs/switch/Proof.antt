@@ -40,7 +40,7 @@ returns-2 c =
     (switch-beyond _ _ _ (ap saidChecked (sym (n .before .enum-told .given .1)) ∙ n .before .before .before .check .ensures) (omega (arith, c .before .if1 .left, n .statecount .ensures)))
 
 returns-3 : tie.Need-returns-3
-returns-3 c = switch-refused _ _ _ _ _ (ap saidChecked (sym (c .before .checked .given .1)) ∙ c .before .before .before .check .ensures)
+returns-3 c = switch-refused _ _ _ _ (ap saidChecked (sym (c .before .checked .given .1)) ∙ c .before .before .before .check .ensures)
 
 pub switch-spec : {M : Type 1} → statement M
 switch-spec =

@@ -19,7 +19,7 @@ returns : tie.Need-returns
 returns c =
     laid-on 32 (c .field322 .ensures) (rw (c .before .before .before .prefix-value .ensures))
     (laid-on 32 (c .before .field32 .ensures) (rw (c .before .before .prefix-value2 .ensures))
-    (laid-none 0))
+    laid-none)
 
 pub address-word-spec : {M : Type 1} → statement M
 address-word-spec =

@@ -1,5 +1,4 @@
-use Rattle.lay.proofs.Packing.{laid-none, mark-on}
-use native.Mathlib.Omega.{arith}
+use Rattle.lay.proofs.Packing.{mark-none, mark-on}
 use borrow.Author.Needs.{needs}
 use Rattle.lay.proofs.link_marks.Statement.{statement}
 use Rattle.lay.proofs.link_marks.Tie as tie
@@ -36,15 +35,12 @@ mark-requires-5 c κs = search needs
 
 returns : tie.Need-returns
 returns c =
-    let m = c .before .before .before .before .before .before in (
-      mark-on (c .mark5 .ensures) (c .before .before .before .before .before .unset64 .ensures)
-          (mark-on (c .before .mark4 .ensures) (c .before .before .before .before .unset642 .ensures)
-          (mark-on (c .before .before .mark3 .ensures) (c .before .before .before .unset162 .ensures)
-          (mark-on (m .mark2 .ensures) (m .before .before .before .unset8 .ensures)
-          (mark-on (m .before .mark .ensures) (m .before .before .unset16 .ensures)
-          (laid-none _))))),
-      omega arith,
-    )
+    let m = c .before .before .before .before .before .before in
+    mark-on (c .mark5 .ensures) (c .before .before .before .before .before .unset64 .ensures)
+    (mark-on (c .before .mark4 .ensures) (c .before .before .before .before .unset642 .ensures)
+    (mark-on (c .before .before .mark3 .ensures) (c .before .before .before .unset162 .ensures)
+    (mark-on (m .mark2 .ensures) (m .before .before .before .unset8 .ensures)
+    (mark-on (m .before .mark .ensures) (m .before .before .unset16 .ensures) mark-none))))
 
 pub link-marks-spec : {M : Type 1} → statement M
 link-marks-spec =

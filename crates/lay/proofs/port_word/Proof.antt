@@ -27,7 +27,7 @@ returns c =
     (laid-on 16 (c .before .field163 .ensures) (rw (c .before .before .before .before .before .range-value .ensures))
     (laid-on 16 (c .before .before .field162 .ensures) (rw (c .before .before .before .before .range-value2 .ensures))
     (laid-on 16 (c .before .before .before .field16 .ensures) (rw (c .before .before .before .before .range-value2 .ensures))
-    (laid-none 0))))
+    laid-none)))
 
 pub port-word-spec : {M : Type 1} → statement M
 port-word-spec =

@@ -3,8 +3,8 @@ use mathlib.Core.Path.{_≡_, refl, _∙_}
 use mathlib.Core.List.{map}
 use lib.ListN.{length, take, drop, length-drop, length-set}
 use lib.Seq.{drop-set-add, take-all}
-use Rattle.table.specs.Table.{noState}
-use Rattle.table.specs.Words.{stateIn}
+use Rattle.table.specs.Table.{mostStates, noState}
+use Rattle.table.specs.Words.{stateRow, tableRows, stateIn}
 use Rattle.lay.specs.Fields.{LaidAs, stateWords}
 use Rattle.lay.proofs.Packing.{rows-next}
 use borrow.Author.Needs.{needs}
@@ -13,19 +13,19 @@ use Rattle.lay.proofs.states.Statement.{statement}
 use Rattle.lay.proofs.states.Tie as tie
 
 abbrev Inv-loop : tie.InvT-loop
-Inv-loop w₀ t k₀ w k = (k ≤ 8) × (length w ≡ 73) × LaidAs (map stateWords) (map stateIn) (take k (t .states)) (take k (drop 65 w))
+Inv-loop w₀ t k₀ w k = (k ≤ mostStates) × (length w ≡ tableRows) × LaidAs (map stateWords) (map stateIn) (take k (t .states)) (take k (drop stateRow w))
 
 abbrev μ-loop : tie.MeasureT-loop
-μ-loop w₀ t k₀ w k = 8 - k
+μ-loop w₀ t k₀ w k = mostStates - k
 
 full-requires : tie.Need-full-requires Inv-loop μ-loop
 full-requires c κs = search needs
 
-rows-requires : tie.Need-rows-requires Inv-loop μ-loop
-rows-requires c κs = search needs
+tell-table-requires : tie.Need-tell-table-requires Inv-loop μ-loop
+tell-table-requires c κs = search needs
 
 loop-holds : tie.Need-loop-holds Inv-loop μ-loop
-loop-holds c = (omega arith, c .rows .ensures, record { exact = refl; back = refl })
+loop-holds c = (omega arith, c .tell-table .ensures, record { exact = refl; back = refl })
 
 mul-s : tie.Need-mul-s Inv-loop μ-loop
 mul-s c = search needs
@@ -57,10 +57,10 @@ loop-again c =
     let f = l .before .before .before in
     let h = c .before .before .loop-test .taken in (
       omega arith,
-      length-set (l .loop .w) (65 + l .loop .k) (c .state .result) ∙ l .loop .inv .1,
-      rw (drop-set-add 65 (l .loop .w) (l .loop .k) (c .state .result))
-          (rows-next noState (f .before .args .t1 .states) (drop 65 (l .loop .w)) (l .loop .k) (omega (arith, f .full .ensures .1, h))
-          (omega (arith, length-drop 65 (l .loop .w), l .loop .inv .1, h)) (l .loop .inv .2) (c .state .ensures)),
+      length-set (l .loop .w) (stateRow + l .loop .k) (c .state .result) ∙ l .loop .inv .1,
+      rw (drop-set-add stateRow (l .loop .w) (l .loop .k) (c .state .result))
+          (rows-next noState (f .before .args .t1 .states) (drop stateRow (l .loop .w)) (l .loop .k) (omega (arith, f .full .ensures .1, h))
+          (omega (arith, length-drop stateRow (l .loop .w), l .loop .inv .1, h)) (l .loop .inv .2) (c .state .ensures)),
     )
 
 returns : tie.Need-returns Inv-loop μ-loop
@@ -69,7 +69,7 @@ returns c =
     let f = l .before .before .before in (
       rw (
         take-all (l .loop .k) (f .before .args .t1 .states) (omega (arith, f .full .ensures .1)),
-        take-all (l .loop .k) (drop 65 (l .loop .w)) (omega (arith, length-drop 65 (l .loop .w), l .loop .inv .1)),
+        take-all (l .loop .k) (drop stateRow (l .loop .w)) (omega (arith, length-drop stateRow (l .loop .w), l .loop .inv .1)),
       ) at (l .loop .inv .2),
       l .loop .inv .1,
     )
@@ -81,7 +81,7 @@ states-spec =
     Inv-loop
     μ-loop
     full-requires
-    rows-requires
+    tell-table-requires
     loop-holds
     mul-s
     element-copy-out-s

@@ -3,9 +3,9 @@ use mathlib.Core.Path.{_≡_, refl, _∙_}
 use mathlib.Core.List.{map}
 use lib.ListN.{length, take, drop, length-set}
 use lib.Seq.{drop-set-lt, take-all}
-use Rattle.table.specs.Table.{noRule}
-use Rattle.table.specs.Words.{ruleIn, stateIn}
-use Rattle.lay.specs.Fields.{LaidAs, ruleWords, stateWords, countWords}
+use Rattle.table.specs.Table.{mostRules, noRule}
+use Rattle.table.specs.Words.{stateRow, tableRows, ruleIn, stateIn}
+use Rattle.lay.specs.Fields.{LaidAs, ruleWords, stateWords}
 use Rattle.lay.proofs.Packing.{rows-next, table-laid}
 use borrow.Author.Needs.{needs}
 use native.Mathlib.Omega.{arith}
@@ -14,13 +14,13 @@ use Rattle.lay.proofs.table.Tie as tie
 
 abbrev Inv-loop : tie.InvT-loop
 Inv-loop w₀ t i₀ w i =
-    (i ≤ 64)
-    × (length w ≡ 73)
+    (i ≤ mostRules)
+    × (length w ≡ tableRows)
     × LaidAs (map ruleWords) (map ruleIn) (take i (t .rules)) (take i w)
-    × LaidAs (map stateWords) (map stateIn) (t .states) (drop 65 w)
+    × LaidAs (map stateWords) (map stateIn) (t .states) (drop stateRow w)
 
 abbrev μ-loop : tie.MeasureT-loop
-μ-loop w₀ t i₀ w i = 64 - i
+μ-loop w₀ t i₀ w i = mostRules - i
 
 full-requires : tie.Need-full-requires Inv-loop μ-loop
 full-requires c κs = search needs
@@ -61,20 +61,22 @@ loop-again c =
       length-set (l .loop .w) (l .loop .i) (c .rule .result) ∙ l .loop .inv .1,
       rows-next noRule (f .before .args .t1 .rules) (l .loop .w) (l .loop .i) (omega (arith, f .full .ensures .0, h))
           (omega (arith, l .loop .inv .1, h)) (l .loop .inv .2) (c .rule .ensures),
-      rw (drop-set-lt 65 (l .loop .w) (l .loop .i) (c .rule .result) (omega (arith, h))) (l .loop .inv .3),
+      rw (drop-set-lt stateRow (l .loop .w) (l .loop .i) (c .rule .result) (omega (arith, h))) (l .loop .inv .3),
     )
+
+counts-requires : tie.Need-counts-requires Inv-loop μ-loop
+counts-requires c κs = search needs
 
 element-set-from-w-2 : tie.Need-element-set-from-w-2 Inv-loop μ-loop
 element-set-from-w-2 c = search needs
 
 returns : tie.Need-returns Inv-loop μ-loop
-unfolding countWords
 returns c =
-    let l = c .before in
+    let l = c .before .before in
     let f = l .before .before .before in
-    let n : l .loop .i ≡ 64 = omega arith in
-    table-laid (f .before .args .t1) (l .loop .w) (l .loop .inv .1)
-    (rw (n, take-all 64 (f .before .args .t1 .rules) (omega (arith, f .full .ensures .0))) at (l .loop .inv .2)) (l .loop .inv .3)
+    let n : l .loop .i ≡ mostRules = omega arith in
+    table-laid (f .before .args .t1) (l .loop .w) (l .loop .inv .1) (c .counts .ensures)
+    (rw (n, take-all mostRules (f .before .args .t1 .rules) (omega (arith, f .full .ensures .0))) at (l .loop .inv .2)) (l .loop .inv .3)
 
 pub table-spec : {M : Type 1} → statement M
 table-spec =
@@ -93,5 +95,6 @@ table-spec =
     add-i
     loop-less
     loop-again
+    counts-requires
     element-set-from-w-2
     returns)

@@ -1,5 +1,4 @@
-use Rattle.lay.proofs.Packing.{laid-none, mark-on}
-use native.Mathlib.Omega.{arith}
+use Rattle.lay.proofs.Packing.{mark-none, mark-on}
 use borrow.Author.Needs.{needs}
 use Rattle.lay.proofs.transport_marks.Statement.{statement}
 use Rattle.lay.proofs.transport_marks.Tie as tie
@@ -23,13 +22,10 @@ mark-requires-3 : tie.Need-mark-requires-3
 mark-requires-3 c κs = search needs
 
 returns : tie.Need-returns
-returns c = (
-  mark-on (c .mark3 .ensures) (c .before .before .before .before .before .unset-kind .ensures)
-      (mark-on (c .before .mark2 .ensures) (c .before .before .before .before .unset-range .ensures)
-      (mark-on (c .before .before .mark .ensures) (c .before .before .before .unset-range2 .ensures)
-      (laid-none _))),
-  omega arith,
-)
+returns c =
+    mark-on (c .mark3 .ensures) (c .before .before .before .before .before .unset-kind .ensures)
+    (mark-on (c .before .mark2 .ensures) (c .before .before .before .before .unset-range .ensures)
+    (mark-on (c .before .before .mark .ensures) (c .before .before .before .unset-range2 .ensures) mark-none))
 
 pub transport-marks-spec : {M : Type 1} → statement M
 transport-marks-spec =

@@ -5,8 +5,8 @@ use borrow.Author.Needs.{needs}
 use Rattle.steps.proofs.id_at.Statement.{statement}
 use Rattle.steps.proofs.id_at.Tie as tie
 
-rows-requires : tie.Need-rows-requires
-rows-requires c κs = search needs
+tell-table-requires : tie.Need-tell-table-requires
+tell-table-requires c κs = search needs
 
 mul-id : tie.Need-mul-id
 mul-id c = search needs
@@ -24,4 +24,4 @@ returns-2 : tie.Need-returns-2
 returns-2 c = simp (le-ltb _ _ (c .if1 .left))
 
 pub id-at-spec : {M : Type 1} → statement M
-id-at-spec = tie.close (tie.spec rows-requires mul-id index-1-id id-requires returns returns-2)
+id-at-spec = tie.close (tie.spec tell-table-requires mul-id index-1-id id-requires returns returns-2)

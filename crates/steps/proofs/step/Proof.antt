@@ -1,8 +1,9 @@
 use denote.Ref.{now}
-use mathlib.Core.Path.{_≡_, ap}
+use mathlib.Core.Path.{_≡_, refl, ap}
 use lib.ListN.{getD}
 use Rattle.layers.proofs.Laws.{shows-inside}
-use Rattle.table.proofs.Good.{good-count}
+use Rattle.layers.specs.Seen.{seen}
+use Rattle.faults.proofs.Good.{good-count}
 use Rattle.table.specs.Words.{tableIn}
 use Rattle.matching.specs.Matching.{deciderOf}
 use Rattle.matching.specs.declared.Decision.{Decision}
@@ -15,34 +16,35 @@ use Rattle.steps.proofs.step.Tie as tie
 element-copy-out-state : tie.Need-element-copy-out-state
 element-copy-out-state c = search needs
 
-segment-requires : tie.Need-segment-requires
-segment-requires c κs = search needs
+turn-requires : tie.Need-turn-requires
+turn-requires c κs = search needs
 
 decide-requires : tie.Need-decide-requires
 decide-requires c κs =
     let t = tableIn (now (c .before .before .before .before .args .t)) in
     let p = c .before .before .before .before .pre in
-    (state-small t _ (p .0) (p .1 .0), good-count t (p .0))
+    (state-small t _ (p .table) (p .records), good-count t (p .table))
 
 -- who decides, and who fits best
-who : (c : tie.After-decide) → c .decide .result .decider ≡ deciderOf (tableIn (now (c .before .before .before .before .before .args .t))) (getD (now (c .before .before .before .before .before .args .head)) 1 0) (now (c .before .before .before .before .before .args .frame)) (c .before .before .before .before .before .args .l)
+who : (c : tie.After-decide) → c .decide .result .decider ≡ deciderOf (tableIn (now (c .before .before .before .before .before .args .t))) (getD (now (c .before .before .before .before .before .args .head)) 1 0) (seen (now (c .before .before .before .before .before .args .frame)) (c .before .before .before .before .before .args .l))
 who c = ap (λ (x : Decision). x .decider) (c .decide .ensures)
 
 tick-requires : tie.Need-tick-requires
 tick-requires c κs =
     let s = c .before .before .before .before .before .before .before .before .before in
-    (good-count (tableIn (now (s .args .t))) (s .pre .0), s .pre .1 .0)
+    record { rules = good-count (tableIn (now (s .args .t))) (s .pre .table); good = s .pre .records }
 
 act-requires : tie.Need-act-requires
 act-requires c κs =
     let d = c .before .before .before .before .before .before .before .before in
     let s = d .before .before .before .before .before in
     let t = tableIn (now (s .args .t)) in
-    let p = s .pre in (
-      rw (who d) (decider-small t _ _ _ (good-count t (p .0))),
-      ticked-small t _ _ _ (p .0) (p .1 .0) (c .before .before .before .tick .ensures),
-      few-places t _ _ _ _ (p .0) (who d),
-    )
+    let p = s .pre in
+    record {
+      place = rw (who d) (decider-small t _ _ (good-count t (p .table)));
+      state = ticked-small t _ _ _ (p .table) (p .records) (c .before .before .before .tick .ensures);
+      room = few-places t _ _ _ (p .table) (who d);
+    }
 
 shape-requires : tie.Need-shape-requires
 shape-requires c κs = search needs
@@ -52,7 +54,7 @@ write-event-requires c κs =
     let d = c .before .before .before .before .before .before .before .before .before .before .before .before .before .before in
     let s = d .before .before .before .before .before in
     let p = s .pre in
-    ((good-count (tableIn (now (s .args .t))) (p .0), ap (λ (x : Decision). x .best) (d .decide .ensures)), (shows-inside _ _ (p .1 .1 .0), (shown-long _ _ (p .1 .1 .0), p .1 .1 .1)))
+    (good-count (tableIn (now (s .args .t))) (p .table), (ap (λ (x : Decision). x .best) (d .decide .ensures), (shows-inside _ _ (p .shows), (shown-long _ _ (p .shows), p .room))))
 
 id-at-requires : tie.Need-id-at-requires
 id-at-requires c κs = search needs
@@ -65,7 +67,7 @@ returns c =
     let d = c .before .before .before .before .before .before .before .before .before .before .before .before .before .before .before .before .before .before in
     let a = d .before .before .before .before .before .args in
     let says = c .before .before .before .before .before .before .before .before .before .act .ensures in
-    step-is (tableIn (now (a .t))) (record { reading = a .reading; bytes = now (a .frame) }) (a .l) _ _ _ _ _ _ _ _ _ _ (who d) (d .before .segment .ensures) (c .before .before .before .before .before .before .before .before .before .before .before .before .before .tick .ensures) (says .0) (says .1) (c .before .before .before .before .before .shape .ensures) (c .id-at .ensures)
+    step-is (tableIn (now (a .t))) (a .reading) (seen (now (a .frame)) (a .l)) _ _ _ _ _ _ _ _ _ (who d) (d .before .turn .ensures) (c .before .before .before .before .before .before .before .before .before .before .before .before .before .tick .ensures) (says .0) (says .1) refl (c .before .before .before .before .before .shape .ensures) (c .id-at .ensures)
     (c .before .before .before .write-event .ensures)
 
 pub step-spec : {M : Type 1} → statement M
@@ -73,7 +75,7 @@ step-spec =
     tie.close
     (tie.spec
     element-copy-out-state
-    segment-requires
+    turn-requires
     decide-requires
     tick-requires
     act-requires

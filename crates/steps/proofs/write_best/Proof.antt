@@ -1,6 +1,7 @@
 use denote.Ref.{now}
 use mathlib.Core.Path.{sym, ap, _∙_}
 use Rattle.table.specs.declared.Rule.{Rule}
+use Rattle.layers.specs.Seen.{seen}
 use Rattle.table.specs.Words.{tableIn}
 use Rattle.table.proofs.Rows.{rule-at}
 use Rattle.events.specs.Events.{mismatchOf}
@@ -9,8 +10,8 @@ use borrow.Author.Needs.{needs}
 use Rattle.steps.proofs.write_best.Statement.{statement}
 use Rattle.steps.proofs.write_best.Tie as tie
 
-rows-requires : tie.Need-rows-requires
-rows-requires c κs = search needs
+tell-table-requires : tie.Need-tell-table-requires
+tell-table-requires c κs = search needs
 
 mul-mismatch : tie.Need-mul-mismatch
 mul-mismatch c = search needs
@@ -43,7 +44,7 @@ returns c =
     let p = m .before .before .before .before .before .before .before .pre in
     let r = rule-at (now (a .t)) (a .best .place) (m .before .before .if1 .taken) in
     wrote _ _ _ _ _
-    (best-rule (tableIn (now (a .t))) (a .state) (now (a .frame)) (a .l) (a .best) (m .mismatch .result) (c .before .before .before .before .id .result) (p .0 .1) (m .before .before .if1 .taken)
+    (best-rule (tableIn (now (a .t))) (a .state) (seen (now (a .frame)) (a .l)) (a .best) (m .mismatch .result) (c .before .before .before .before .id .result) (p .1 .0) (m .before .before .if1 .taken)
     (m .mismatch .ensures ∙ ap (λ (x : Rule). mismatchOf x (a .best .layer)) (sym r)) (c .before .before .before .before .id .ensures ∙ ap (λ (x : Rule). x .id) (sym r)))
     (c .before .before .write .ensures)
 
@@ -57,13 +58,13 @@ returns-2 : tie.Need-returns-2
 returns-2 c =
     let a = c .before .before .before .before .before .before .before .before .before .args in
     let p = c .before .before .before .before .before .before .before .before .before .pre in
-    wrote _ _ _ _ _ (best-link (tableIn (now (a .t))) (a .state) (now (a .frame)) (a .l) (a .best) (p .0 .1) (p .0 .0) (c .before .before .before .before .if1 .left)) (c .before .before .write2 .ensures)
+    wrote _ _ _ _ _ (best-link (tableIn (now (a .t))) (a .state) (seen (now (a .frame)) (a .l)) (a .best) (p .1 .0) (p .0) (c .before .before .before .before .if1 .left)) (c .before .before .write2 .ensures)
 
 pub write-best-spec : {M : Type 1} → statement M
 write-best-spec =
     tie.close
     (tie.spec
-    rows-requires
+    tell-table-requires
     mul-mismatch
     index-1-mismatch
     mismatch-requires

@@ -12,14 +12,14 @@ abbrev μ-loop : tie.MeasureT-loop
 loop-holds : tie.Need-loop-holds Inv-loop μ-loop
 loop-holds c = search needs
 
-mul-if1 : tie.Need-mul-if1 Inv-loop μ-loop
-mul-if1 c = search needs
+mul-state : tie.Need-mul-state Inv-loop μ-loop
+mul-state c = search needs
 
-index-1-if1 : tie.Need-index-1-if1 Inv-loop μ-loop
-index-1-if1 c = search needs
+index-1-state : tie.Need-index-1-state Inv-loop μ-loop
+index-1-state c = search needs
 
-index-2-if1 : tie.Need-index-2-if1 Inv-loop μ-loop
-index-2-if1 c = search needs
+state-requires : tie.Need-state-requires Inv-loop μ-loop
+state-requires c κs = search needs
 
 returns : tie.Need-returns Inv-loop μ-loop
 returns c = search needs
@@ -52,9 +52,9 @@ empty-spec =
     Inv-loop
     μ-loop
     loop-holds
-    mul-if1
-    index-1-if1
-    index-2-if1
+    mul-state
+    index-1-state
+    state-requires
     returns
     add-j
     loop-less

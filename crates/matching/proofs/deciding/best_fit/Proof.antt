@@ -7,14 +7,15 @@ use lib.ListN.{getD}
 use lib.Dec.{ltb}
 use borrow.Author.Needs.{needs}
 use borrow.Author.Tests.{ltb-true}
+use Rattle.numbers.specs.Lists.{leading}
 use Rattle.numbers.proofs.Lists.{and-both}
-use Rattle.layers.specs.declared.Layers.{Layers}
+use Rattle.layers.specs.Seen.{Seen, seen}
 use Rattle.table.specs.declared.Rule.{Rule}
 use Rattle.table.specs.Table.{marked, stateAt, active}
 use Rattle.table.specs.Words.{ruleIn, tableIn}
 use Rattle.table.proofs.Rows.{rule-at}
 use Rattle.matching.specs.Matching.{layerTests}
-use Rattle.matching.specs.Best.{leading, scoreOf}
+use Rattle.matching.specs.Best.{scoreOf}
 use Rattle.matching.proofs.Fitting.{Fits, fits-start, fits-taken, fits-left, fits-end, fits-none, best-fits, score-small}
 use native.Mathlib.Omega.{arith}
 use Rattle.matching.proofs.deciding.best_fit.Statement.{statement}
@@ -24,7 +25,7 @@ abbrev Inv-loop : tie.InvT-loop
 Inv-loop t state s l marks count place₀ most₀ i₀ place most i =
     (i ≤ count)
     × (count ≡ tableIn t .rulecount)
-    × Fits (scoreOf (tableIn t) state s l) i place most
+    × Fits (scoreOf (tableIn t) state (seen s l)) i place most
 
 abbrev μ-loop : tie.MeasureT-loop
 μ-loop t state s l marks count place₀ most₀ i₀ place most i = count - i
@@ -37,27 +38,27 @@ goes-on c =
 
 -- the score of the row at i is that of the rule there
 row-scored :
-    (t : List (List ℕ)) (state : ℕ) (s : List ℕ) (l : Layers) (marks i n : ℕ) → i < 64 → marks ≡ stateAt (tableIn t) state .marks
-    → n ≡ cond (marked marks i) (suc (leading (layerTests (ruleIn (getD t i [])) s l))) 0 → n ≡ scoreOf (tableIn t) state s l i
+    (t : List (List ℕ)) (state : ℕ) (x : Seen) (marks i n : ℕ) → i < 64 → marks ≡ stateAt (tableIn t) state .marks
+    → n ≡ cond (marked marks i) (suc (leading (layerTests (ruleIn (getD t i [])) x))) 0 → n ≡ scoreOf (tableIn t) state x i
 unfolding scoreOf
-row-scored t state s l marks i n h e k =
+row-scored t state x marks i n h e k =
     k
-    ∙ ap (λ (m : ℕ). cond (marked m i) (suc (leading (layerTests (ruleIn (getD t i [])) s l))) 0) e
-    ∙ ap (λ (r : Rule). cond (active (tableIn t) state i) (suc (leading (layerTests r s l))) 0) (sym (rule-at t i h))
+    ∙ ap (λ (m : ℕ). cond (marked m i) (suc (leading (layerTests (ruleIn (getD t i [])) x))) 0) e
+    ∙ ap (λ (r : Rule). cond (active (tableIn t) state i) (suc (leading (layerTests r x))) 0) (sym (rule-at t i h))
 
 -- as the loop has it
 scored :
     (c : tie.After-score Inv-loop μ-loop)
     → c .score .result
-    ≡ scoreOf (tableIn (c .before .before .before .before .before .before .before .before .before .args .t .now)) (c .before .before .before .before .before .before .before .before .before .args .state) (c .before .before .before .before .before .before .before .before .before .args .s .now) (c .before .before .before .before .before .before .before .before .before .args .l) (c .before .before .before .loop .i)
+    ≡ scoreOf (tableIn (c .before .before .before .before .before .before .before .before .before .args .t .now)) (c .before .before .before .before .before .before .before .before .before .args .state) (seen (c .before .before .before .before .before .before .before .before .before .args .s .now) (c .before .before .before .before .before .before .before .before .before .args .l)) (c .before .before .before .loop .i)
 scored c =
     let q = c .before .before .before in
     let m = q .before .before in
     let a = m .before .before .before .before .args in
-    row-scored (a .t .now) (a .state) (a .s .now) (a .l) (m .marks-of .result) (q .loop .i) (c .score .result) (omega (arith, goes-on (c .before .before))) (m .marks-of .ensures) (c .score .ensures)
+    row-scored (a .t .now) (a .state) (seen (a .s .now) (a .l)) (m .marks-of .result) (q .loop .i) (c .score .result) (omega (arith, goes-on (c .before .before))) (m .marks-of .ensures) (c .score .ensures)
 
-rows-requires : tie.Need-rows-requires Inv-loop μ-loop
-rows-requires c κs = search needs
+tell-table-requires : tie.Need-tell-table-requires Inv-loop μ-loop
+tell-table-requires c κs = search needs
 
 marks-of-requires : tie.Need-marks-of-requires Inv-loop μ-loop
 marks-of-requires c κs = omega arith
@@ -68,7 +69,7 @@ rulecount-requires c κs = search needs
 loop-holds : tie.Need-loop-holds Inv-loop μ-loop
 loop-holds c =
     let a = c .before .before .before .before .before .args in
-    (omega arith, c .rulecount .ensures, fits-start (scoreOf (tableIn (a .t .now)) (a .state) (a .s .now) (a .l)))
+    (omega arith, c .rulecount .ensures, fits-start (scoreOf (tableIn (a .t .now)) (a .state) (seen (a .s .now) (a .l))))
 
 mul-score : tie.Need-mul-score Inv-loop μ-loop
 mul-score c = omega (arith, goes-on c)
@@ -90,7 +91,7 @@ loop-again c =
     let n = c .before in
     let q = n .before .before .before in
     let a = q .before .before .before .before .before .before .args in
-    let f = scoreOf (tableIn (a .t .now)) (a .state) (a .s .now) (a .l) in (
+    let f = scoreOf (tableIn (a .t .now)) (a .state) (seen (a .s .now) (a .l)) in (
       omega (arith, goes-on (n .before .before)),
       q .loop .inv .1,
       ⊎-elim
@@ -103,8 +104,8 @@ returns : tie.Need-returns Inv-loop μ-loop
 returns c =
     let q = c .before .before in
     let a = q .before .before .before .before .before .before .args in
-    fits-none (tableIn (a .t .now)) (a .state) (a .s .now) (a .l) (q .loop .place) (q .loop .most) (c .if2 .taken)
-    (fits-end _ (q .loop .i) _ _ _ (score-small (tableIn (a .t .now)) (a .state) (a .s .now) (a .l)) (omega arith) (rw (q .loop .inv .1) at (c .before .loop-test .left)) (q .loop .inv .2))
+    fits-none (tableIn (a .t .now)) (a .state) (seen (a .s .now) (a .l)) (q .loop .place) (q .loop .most) (c .if2 .taken)
+    (fits-end _ (q .loop .i) _ _ _ (score-small (tableIn (a .t .now)) (a .state) (seen (a .s .now) (a .l))) (omega arith) (rw (q .loop .inv .1) at (c .before .loop-test .left)) (q .loop .inv .2))
 
 sub-t21 : tie.Need-sub-t21 Inv-loop μ-loop
 sub-t21 c = omega arith
@@ -113,8 +114,8 @@ returns-2 : tie.Need-returns-2 Inv-loop μ-loop
 returns-2 c =
     let q = c .before .before in
     let a = q .before .before .before .before .before .before .args in
-    best-fits (tableIn (a .t .now)) (a .state) (a .s .now) (a .l) (q .loop .place) (q .loop .most) (c .if2 .left)
-    (fits-end _ (q .loop .i) _ _ _ (score-small (tableIn (a .t .now)) (a .state) (a .s .now) (a .l)) (omega arith) (rw (q .loop .inv .1) at (c .before .loop-test .left)) (q .loop .inv .2))
+    best-fits (tableIn (a .t .now)) (a .state) (seen (a .s .now) (a .l)) (q .loop .place) (q .loop .most) (c .if2 .left)
+    (fits-end _ (q .loop .i) _ _ _ (score-small (tableIn (a .t .now)) (a .state) (seen (a .s .now) (a .l))) (omega arith) (rw (q .loop .inv .1) at (c .before .loop-test .left)) (q .loop .inv .2))
 
 pub best-fit-spec : {M : Type 1} → statement M
 best-fit-spec =
@@ -122,7 +123,7 @@ best-fit-spec =
     (tie.spec
     Inv-loop
     μ-loop
-    rows-requires
+    tell-table-requires
     marks-of-requires
     rulecount-requires
     loop-holds

@@ -1,7 +1,8 @@
 use mathlib.Core.Path.{_∙_}
+use Rattle.layers.specs.Seen.{seen}
 use Rattle.table.specs.Words.{ruleIn}
 use native.Mathlib.Numerals.{add-one}
-use Rattle.matching.proofs.Agreeing.{count-stops, count-goes}
+use Rattle.numbers.proofs.Leading.{count-stops, count-goes}
 use Rattle.matching.proofs.Leading.{leading-small}
 use native.Mathlib.Omega.{arith}
 use borrow.Author.Needs.{needs}
@@ -20,7 +21,7 @@ layers-matched-requires c κs = search needs
 add-result : tie.Need-add-result
 add-result c =
     let a = c .before .before .before .before .args in
-    omega (arith, c .layers-matched .ensures, leading-small (ruleIn (a .r .now)) (a .s .now) (a .l))
+    omega (arith, c .layers-matched .ensures, leading-small (ruleIn (a .r .now)) (seen (a .s .now) (a .l)))
 
 returns-2 : tie.Need-returns-2
 returns-2 c = add-one _ ∙ count-goes (c .before .before .marked .ensures) (c .before .if1 .left) (c .layers-matched .ensures)

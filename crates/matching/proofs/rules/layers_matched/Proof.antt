@@ -5,7 +5,7 @@ use Rattle.table.specs.declared.Ipv4Settings.{Ipv4Settings}
 use Rattle.table.specs.declared.TransportSettings.{TransportSettings}
 use Rattle.table.specs.declared.SomeipSettings.{SomeipSettings}
 use Rattle.matching.specs.Matching.{linkMatches, ipv4Matches, transportMatches, someipMatches, layerTests}
-use Rattle.matching.proofs.Agreeing.{count-stops, count-goes}
+use Rattle.numbers.proofs.Leading.{count-stops, count-goes}
 use borrow.Author.Needs.{needs}
 use Rattle.matching.proofs.rules.layers_matched.Statement.{statement}
 use Rattle.matching.proofs.rules.layers_matched.Tie as tie

@@ -1,3 +1,5 @@
+-- `records::act::act` meets its contract.
+-- Assumes nothing.
 use Rattle.table.specs.Words.{tableIn}
 use Rattle.table.proofs.Rows.{rule-at}
 use Rattle.records.proofs.ActLaws.{act-rule, act-default}
@@ -6,11 +8,11 @@ use native.Mathlib.Omega.{arith}
 use Rattle.records.proofs.act.act.Statement.{statement}
 use Rattle.records.proofs.act.act.Tie as tie
 
-rows-requires : tie.Need-rows-requires
-rows-requires c κs = search needs
+tell-rows-requires : tie.Need-tell-rows-requires
+tell-rows-requires c κs = search needs
 
-rows-requires-2 : tie.Need-rows-requires-2
-rows-requires-2 c κs = search needs
+tell-table-requires : tie.Need-tell-table-requires
+tell-table-requires c κs = search needs
 
 mul-react : tie.Need-mul-react
 mul-react c = search needs
@@ -33,7 +35,7 @@ index-1-react-3 c = search needs
 react-requires : tie.Need-react-requires
 react-requires c κs = let s = c .before .before .before .before .before .before .before .before .before in
     let h = c .before .before .before .if1 .taken in
-    rw (← (rule-at (s .args .t .now) (s .args .d) h)) (s .pre .2 h)
+    rw (← (rule-at (s .args .t .now) (s .args .d) h)) (s .pre .room h)
 
 element-copy-out-k : tie.Need-element-copy-out-k
 element-copy-out-k c = search needs
@@ -61,8 +63,8 @@ pub act-spec : {M : Type 1} → statement M
 act-spec =
     tie.close
     (tie.spec
-    rows-requires
-    rows-requires-2
+    tell-rows-requires
+    tell-table-requires
     mul-react
     index-1-react
     mul-react-2

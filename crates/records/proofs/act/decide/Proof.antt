@@ -1,16 +1,17 @@
+-- `records::act::decide` meets its contract.
+-- Assumes nothing.
 use Prim.Native.Nat.{_≤_}
 use mathlib.Core.Path.{sym, ap, subst, _∙_}
-use mathlib.Core.List.{map}
 use borrow.Author.Tests.{not-true, not-false}
 use Rattle.table.specs.declared.Bucket.{Bucket}
 use Rattle.table.specs.declared.Tracking.{Tracking}
 use Rattle.table.specs.Table.{isAllow}
 use Rattle.table.specs.Words.{ruleIn}
-use Rattle.records.specs.Records.{placeOf}
-use Rattle.records.specs.Rule.{over, tracked}
-use Rattle.records.specs.Good.{placesIn}
-use Rattle.records.proofs.TrackLaws.{stays}
-use Rattle.records.proofs.ActLaws.{decide-block, decide-over, decide-track}
+use Rattle.conversations.specs.Places.{mostPlaces, placesOf}
+use Rattle.conversations.specs.Tracking.{tracked}
+use Rattle.conversations.specs.Good.{placesIn}
+use Rattle.records.specs.Rule.{over, asTracked}
+use Rattle.records.proofs.ActLaws.{stays, tracks, decide-block, decide-over, decide-track}
 use borrow.Author.Needs.{needs}
 use Rattle.records.proofs.act.decide.Statement.{statement}
 use Rattle.records.proofs.act.decide.Tie as tie
@@ -28,7 +29,7 @@ returns : tie.Need-returns
 returns c =
     let i = c .before .before in
     let a = i .before .before .args in
-    decide-block (ruleIn (a .r .now)) (a .g) (a .level) (map placeOf (a .ps .now)) _
+    decide-block (ruleIn (a .r .now)) (a .g) (a .level) (placesOf (a .ps .now)) _
     (sym (i .is-allow .ensures ∙ ap isAllow (i .before .rule-action .ensures)) ∙ not-true _ (c .before .if1 .taken))
     (stays _ _ (a .ps .now) (c .blocked-by-rule .ensures))
 
@@ -43,7 +44,7 @@ returns-2 c =
     let o = c .before .before in
     let i = o .before .before in
     let a = i .before .before .args in
-    decide-over (ruleIn (a .r .now)) (a .g) (a .level) (map placeOf (a .ps .now)) _
+    decide-over (ruleIn (a .r .now)) (a .g) (a .level) (placesOf (a .ps .now)) _
     (sym (i .is-allow .ensures ∙ ap isAllow (i .before .rule-action .ensures)) ∙ not-false _ (o .before .if1 .left))
     (sym (o .is-over .ensures ∙ ap (λ (k : Bucket). over k (a .level)) (i .before .before .pre .0)) ∙ c .before .if2 .taken)
     (stays _ _ (a .ps .now) (c .over-rate .ensures))
@@ -64,7 +65,10 @@ track-requires : tie.Need-track-requires
 track-requires c κs =
     let k = c .before .before in
     let o = k .before .before .before .before in
-    subst (λ (k : Tracking). placesIn k ≤ 8) (sym (k .before .before .tracking .ensures) ∙ k .k .given .1) (o .before .before .before .before .pre .1)
+    subst (λ (k : Tracking). placesIn k ≤ mostPlaces) (sym (k .before .before .tracking .ensures) ∙ k .k .given .1) (o .before .before .before .before .pre .1)
+
+of-requires : tie.Need-of-requires
+of-requires c κs = search needs
 
 returns-3 : tie.Need-returns-3
 returns-3 c =
@@ -72,21 +76,22 @@ returns-3 c =
     let o = k .before .before in
     let i = o .before .before in
     let a = i .before .before .args in
-    decide-track (ruleIn (a .r .now)) (a .g) (a .level) (map placeOf (a .ps .now)) _
+    decide-track (ruleIn (a .r .now)) (a .g) (a .level) (placesOf (a .ps .now)) _
     (sym (i .is-allow .ensures ∙ ap isAllow (i .before .rule-action .ensures)) ∙ not-false _ (o .before .if1 .left))
     (sym (o .is-over .ensures ∙ ap (λ (k : Bucket). over k (a .level)) (i .before .before .pre .0)) ∙ k .before .if2 .left)
-    (stays _ _ (a .ps .now) (c .allowed .ensures) ∙ ap (λ (k : Tracking). tracked k (a .g) (map placeOf (a .ps .now))) (sym (c .before .enum-told .given .1) ∙ k .tracking .ensures))
+    (stays _ _ (a .ps .now) (c .allowed .ensures) ∙ ap (λ (k : Tracking). asTracked (tracked k (a .g) (placesOf (a .ps .now)))) (sym (c .before .enum-told .given .1) ∙ k .tracking .ensures))
 
 returns-4 : tie.Need-returns-4
 returns-4 c =
-    let k = c .before .before .before .before .before in
+    let k = c .before .before .before .before .before .before in
     let o = k .before .before in
     let i = o .before .before in
     let a = i .before .before .args in
-    decide-track (ruleIn (a .r .now)) (a .g) (a .level) (map placeOf (a .ps .now)) _
+    decide-track (ruleIn (a .r .now)) (a .g) (a .level) (placesOf (a .ps .now)) _
     (sym (i .is-allow .ensures ∙ ap isAllow (i .before .rule-action .ensures)) ∙ not-false _ (o .before .if1 .left))
     (sym (o .is-over .ensures ∙ ap (λ (k : Bucket). over k (a .level)) (i .before .before .pre .0)) ∙ k .before .if2 .left)
-    (c .track .ensures ∙ ap (λ (k : Tracking). tracked k (a .g) (map placeOf (a .ps .now))) (sym (c .before .before .before .k .given .1) ∙ k .tracking .ensures))
+    (tracks _ _ _ _ (c .of .ensures) (c .before .track .ensures)
+    ∙ ap (λ (k : Tracking). asTracked (tracked k (a .g) (placesOf (a .ps .now)))) (sym (c .before .before .before .before .k .given .1) ∙ k .tracking .ensures))
 
 pub decide-spec : {M : Type 1} → statement M
 decide-spec =
@@ -104,5 +109,6 @@ decide-spec =
     allowed-requires
     enum-known-k
     track-requires
+    of-requires
     returns-3
     returns-4)

@@ -1,3 +1,5 @@
+-- `records::act::fall_back` meets its contract.
+-- Assumes nothing.
 use mathlib.Core.Path.{refl}
 use Rattle.records.proofs.ActLaws.{default-is}
 use borrow.Author.Needs.{needs}

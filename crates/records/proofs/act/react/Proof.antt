@@ -1,3 +1,5 @@
+-- `records::act::react` meets its contract.
+-- Assumes nothing.
 use mathlib.Core.Path.{ap, _∙_}
 use lib.ListN.{getD}
 use Rattle.table.specs.declared.Bucket.{Bucket}

@@ -1,3 +1,5 @@
+-- `records::fresh::fresh` meets its contract.
+-- Assumes nothing.
 use mathlib.Core.Path.{refl}
 use Rattle.records.specs.Records.{recordsOf}
 use Rattle.records.specs.Step.{freshOf}

@@ -1,3 +1,5 @@
+-- `records::good::good` meets its contract.
+-- Assumes nothing.
 use mathlib.Core.Path.{ap}
 use lib.ListN.{getD}
 use lib.Dec.{ltb}
@@ -7,11 +9,11 @@ use borrow.Author.Needs.{needs}
 use Rattle.records.proofs.good.good.Statement.{statement}
 use Rattle.records.proofs.good.good.Tie as tie
 
-rows-requires : tie.Need-rows-requires
-rows-requires c κs = search needs
+tell-rows-requires : tie.Need-tell-rows-requires
+tell-rows-requires c κs = search needs
 
-rows-requires-2 : tie.Need-rows-requires-2
-rows-requires-2 c κs = search needs
+tell-table-requires : tie.Need-tell-table-requires
+tell-table-requires c κs = search needs
 
 statecount-requires : tie.Need-statecount-requires
 statecount-requires c κs = search needs
@@ -33,14 +35,14 @@ good-level-requires c κs = search needs
 
 returns : tie.Need-returns
 returns c = let a = c .before .before .before .before .before .before .before .before .before .before .args in
-    all-is (tableIn (a .t .now)) (a .head .now) (a .counts .now) (a .places .now) _ _ _ (rules-64 (a .t .now) (c .before .before .before .before .before .rows2 .ensures)) (c .before .before .before .before .before .before .before .rows .ensures .0) (c .before .before .before .before .before .before .before .rows .ensures .1) (ap (ltb (getD (a .head .now) 1 0)) (c .before .before .before .before .statecount .ensures)) (c .before .before .good-rules .ensures) (c .good-level .ensures)
+    all-is (tableIn (a .t .now)) (a .head .now) (a .counts .now) (a .places .now) _ _ _ (rules-64 (a .t .now) (c .before .before .before .before .before .tell-table .ensures)) (c .before .before .before .before .before .before .before .tell-rows .ensures .0) (c .before .before .before .before .before .before .before .tell-rows .ensures .1) (ap (ltb (getD (a .head .now) 1 0)) (c .before .before .before .before .statecount .ensures)) (c .before .before .good-rules .ensures) (c .good-level .ensures)
 
 pub good-spec : {M : Type 1} → statement M
 good-spec =
     tie.close
     (tie.spec
-    rows-requires
-    rows-requires-2
+    tell-rows-requires
+    tell-table-requires
     statecount-requires
     element-copy-out-result
     good-rules-requires

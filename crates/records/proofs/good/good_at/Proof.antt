@@ -1,3 +1,5 @@
+-- `records::good::good_at` meets its contract.
+-- Assumes nothing.
 use mathlib.Core.Path.{sym, ap, _∙_}
 use mathlib.Core.Bool.{Bool, cond}
 use Rattle.table.specs.Table.{noRule}

@@ -1,3 +1,5 @@
+-- `records::good::good_none` meets its contract.
+-- Assumes nothing.
 use Rattle.records.specs.Records.{ruleOf}
 use Rattle.records.proofs.GoodCode.{none-is}
 use borrow.Author.Needs.{needs}

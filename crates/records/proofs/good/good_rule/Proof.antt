@@ -1,3 +1,5 @@
+-- `records::good::good_rule` meets its contract.
+-- Assumes nothing.
 use mathlib.Core.Path.{sym, _∙_}
 use Rattle.table.specs.Words.{ruleIn}
 use Rattle.records.specs.Records.{ruleOf}

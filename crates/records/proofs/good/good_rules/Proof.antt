@@ -1,3 +1,5 @@
+-- `records::good::good_rules` meets its contract.
+-- Assumes nothing.
 use Prim.Native.Nat.{_≤_, _-_}
 use mathlib.Core.Path.{_≡_, sym, ap, _∙_}
 use mathlib.Core.Bool.{true}
@@ -16,11 +18,11 @@ Inv-loop t counts places n i₀ i = (i ≤ 64) × (allBelow (goodAt (tableIn t) 
 abbrev μ-loop : tie.MeasureT-loop
 μ-loop t counts places n i₀ i = 64 - i
 
-rows-requires : tie.Need-rows-requires Inv-loop μ-loop
-rows-requires c κs = tt
+tell-rows-requires : tie.Need-tell-rows-requires Inv-loop μ-loop
+tell-rows-requires c κs = tt
 
-rows-requires-2 : tie.Need-rows-requires-2 Inv-loop μ-loop
-rows-requires-2 c κs = tt
+tell-table-requires : tie.Need-tell-table-requires Inv-loop μ-loop
+tell-table-requires c κs = tt
 
 rulecount-requires : tie.Need-rulecount-requires Inv-loop μ-loop
 rulecount-requires c κs = tt
@@ -77,8 +79,8 @@ good-rules-spec =
     (tie.spec
     Inv-loop
     μ-loop
-    rows-requires
-    rows-requires-2
+    tell-rows-requires
+    tell-table-requires
     rulecount-requires
     loop-holds
     mul-good-at

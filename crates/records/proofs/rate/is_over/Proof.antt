@@ -1,3 +1,5 @@
+-- `records::rate::is_over` meets its contract.
+-- Assumes nothing.
 use Prim.Native.Nat.{ℕ, _*_}
 use mathlib.Core.Path.{sym, ap, _∙_}
 use lib.Dec.{ltb}

@@ -1,3 +1,5 @@
+-- `records::rate::raise` meets its contract.
+-- Assumes nothing.
 use Prim.Native.Nat.{_+_, min}
 use mathlib.Core.Path.{_≡_, sym, ap, _∙_}
 use Rattle.table.specs.declared.Bucket.{Bucket}

@@ -1,3 +1,5 @@
+-- `records::time::age_level` meets its contract.
+-- Assumes nothing.
 use mathlib.Core.Path.{sym, ap, _∙_}
 use lib.ListN.{getD, set}
 use lib.Seq.{set-getD}

@@ -1,11 +1,13 @@
+-- `records::time::age_rule` meets its contract.
+-- Assumes nothing.
 use mathlib.Core.Path.{sym, ap, _∙_}
-use mathlib.Core.List.{map}
 use lib.ListN.{getD, set}
 use Rattle.table.specs.declared.Bucket.{Bucket}
 use Rattle.table.specs.declared.Tracking.{Tracking}
 use Rattle.table.specs.Words.{ruleIn}
-use Rattle.records.specs.Records.{placeOf}
-use Rattle.records.specs.Rule.{drained, agedPlaces}
+use Rattle.conversations.specs.Places.{placesOf}
+use Rattle.conversations.specs.Ageing.{agedPlaces}
+use Rattle.records.specs.Rule.{drained}
 use Rattle.records.proofs.TimeLaws.{rule-aged}
 use borrow.Author.Needs.{needs}
 use Rattle.records.proofs.time.age_rule.Statement.{statement}
@@ -17,8 +19,8 @@ bucket-requires c κs = search needs
 tracking-requires : tie.Need-tracking-requires
 tracking-requires c κs = search needs
 
-three-requires : tie.Need-three-requires
-three-requires c κs = search needs
+tell-counts-requires : tie.Need-tell-counts-requires
+tell-counts-requires c κs = search needs
 
 age-level-requires : tie.Need-age-level-requires
 age-level-requires c κs = search needs
@@ -34,15 +36,15 @@ age-places-requires c κs = search needs
 
 returns : tie.Need-returns
 returns c = let a = c .before .before .before .before .before .before .before .before .args in
-    rule-aged (a .elapsed) (ruleIn (a .r .now)) (a .c .now) _ (a .ps .now) (a .ps .now) (c .before .before .before .before .three .ensures)
+    rule-aged (a .elapsed) (ruleIn (a .r .now)) (a .c .now) _ (a .ps .now) (a .ps .now) (c .before .before .before .before .tell-counts .ensures)
     (c .before .before .age-level .ensures ∙ ap (λ (k : Bucket). set (a .c .now) 0 (drained k (a .elapsed) (getD (a .c .now) 0 0))) (c .before .before .before .before .before .before .before .bucket .ensures))
-    (ap (λ (k : Tracking). agedPlaces k (a .elapsed) (map placeOf (a .ps .now))) (sym (c .enum-told .given .1) ∙ c .before .before .before .before .before .before .tracking .ensures))
+    (ap (λ (k : Tracking). agedPlaces k (a .elapsed) (placesOf (a .ps .now))) (sym (c .enum-told .given .1) ∙ c .before .before .before .before .before .before .tracking .ensures))
 
 returns-2 : tie.Need-returns-2
 returns-2 c = let a = c .before .before .before .before .before .before .before .before .before .before .before .args in
-    rule-aged (a .elapsed) (ruleIn (a .r .now)) (a .c .now) _ (a .ps .now) (c .age-places .last .1 .1 .0) (c .before .before .before .before .before .before .before .three .ensures)
+    rule-aged (a .elapsed) (ruleIn (a .r .now)) (a .c .now) _ (a .ps .now) (c .age-places .last .1 .1 .0) (c .before .before .before .before .before .before .before .tell-counts .ensures)
     (c .before .before .before .before .before .age-level .ensures ∙ ap (λ (k : Bucket). set (a .c .now) 0 (drained k (a .elapsed) (getD (a .c .now) 0 0))) (c .before .before .before .before .before .before .before .before .before .before .bucket .ensures))
-    (c .age-places .ensures ∙ ap (λ (k : Tracking). agedPlaces k (a .elapsed) (map placeOf (a .ps .now))) (sym (c .before .before .before .k .given .1) ∙ c .before .before .before .before .before .before .before .before .before .tracking .ensures))
+    (c .age-places .ensures ∙ ap (λ (k : Tracking). agedPlaces k (a .elapsed) (placesOf (a .ps .now))) (sym (c .before .before .before .k .given .1) ∙ c .before .before .before .before .before .before .before .before .before .tracking .ensures))
 
 pub age-rule-spec : {M : Type 1} → statement M
 age-rule-spec =
@@ -50,7 +52,7 @@ age-rule-spec =
     (tie.spec
     bucket-requires
     tracking-requires
-    three-requires
+    tell-counts-requires
     age-level-requires
     enum-told
     enum-known-k

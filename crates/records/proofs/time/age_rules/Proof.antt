@@ -1,3 +1,5 @@
+-- `records::time::age_rules` meets its contract.
+-- Assumes nothing.
 use Prim.Native.Nat.{_≤_, _-_}
 use mathlib.Core.Path.{_≡_, refl}
 use lib.ListN.{length, length-set, getD}
@@ -19,11 +21,11 @@ Inv-loop t elapsed counts₀ places₀ n i₀ counts places i = (i ≤ n) × (le
 abbrev μ-loop : tie.MeasureT-loop
 μ-loop t elapsed counts₀ places₀ n i₀ counts places i = n - i
 
-rows-requires : tie.Need-rows-requires Inv-loop μ-loop
-rows-requires c κs = tt
+tell-rows-requires : tie.Need-tell-rows-requires Inv-loop μ-loop
+tell-rows-requires c κs = tt
 
-rows-requires-2 : tie.Need-rows-requires-2 Inv-loop μ-loop
-rows-requires-2 c κs = tt
+tell-table-requires : tie.Need-tell-table-requires Inv-loop μ-loop
+tell-table-requires c κs = tt
 
 rulecount-requires : tie.Need-rulecount-requires Inv-loop μ-loop
 rulecount-requires c κs = tt
@@ -79,8 +81,8 @@ age-rules-spec =
     (tie.spec
     Inv-loop
     μ-loop
-    rows-requires
-    rows-requires-2
+    tell-rows-requires
+    tell-table-requires
     rulecount-requires
     loop-holds
     mul-age-rule

@@ -1,3 +1,5 @@
+-- `records::time::drain` meets its contract.
+-- Assumes nothing.
 use Prim.Native.Nat.{ℕ, _*_, _≤_}
 use mathlib.Core.Path.{ap, _∙_}
 use lib.Dec.{lit<}

@@ -1,3 +1,5 @@
+-- `records::time::tick` meets its contract.
+-- Assumes nothing.
 use Rattle.table.specs.Words.{tableIn}
 use Rattle.records.proofs.TimeLaws.{tick-still, tick-aged}
 use borrow.Author.Needs.{needs}
@@ -5,8 +7,8 @@ use native.Mathlib.Omega.{arith}
 use Rattle.records.proofs.time.tick.Statement.{statement}
 use Rattle.records.proofs.time.tick.Tie as tie
 
-two-requires : tie.Need-two-requires
-two-requires c κs = search needs
+tell-head-requires : tie.Need-tell-head-requires
+tell-head-requires c κs = search needs
 
 element-copy-out-elapsed-of : tie.Need-element-copy-out-elapsed-of
 element-copy-out-elapsed-of c = search needs
@@ -19,7 +21,7 @@ element-write-head c = search needs
 
 returns : tie.Need-returns
 returns c = let a = c .before .before .before .before .before .args in
-    tick-still (tableIn (a .t .now)) (a .reading) _ (a .head .now) (omega arith) (c .before .elapsed-of .ensures) (a .counts .now) (a .places .now) (omega arith) (c .before .before .before .before .before .pre .1) (c .if1 .taken)
+    tick-still (tableIn (a .t .now)) (a .reading) _ (a .head .now) (omega arith) (c .before .elapsed-of .ensures) (a .counts .now) (a .places .now) (omega arith) (c .before .before .before .before .before .pre .good) (c .if1 .taken)
 
 age-rules-requires : tie.Need-age-rules-requires
 age-rules-requires c κs = search needs
@@ -32,7 +34,7 @@ pub tick-spec : {M : Type 1} → statement M
 tick-spec =
     tie.close
     (tie.spec
-    two-requires
+    tell-head-requires
     element-copy-out-elapsed-of
     elapsed-of-requires
     element-write-head

@@ -1,3 +1,5 @@
+-- `worked::same::held` is safe and ends.
+-- Assumes nothing.
 use borrow.Author.Needs.{needs}
 use Prim.Native.Nat.{_-_}
 use Rattle.worked.proofs.same.held.Statement.{statement}

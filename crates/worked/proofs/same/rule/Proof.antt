@@ -1,3 +1,5 @@
+-- `worked::same::rule` is safe and ends.
+-- Assumes nothing.
 use borrow.Author.Needs.{needs}
 use Prim.Native.Nat.{_-_}
 use Rattle.worked.proofs.same.rule.Statement.{statement}
@@ -12,20 +14,20 @@ abbrev μ-loop : tie.MeasureT-loop
 loop-holds : tie.Need-loop-holds Inv-loop μ-loop
 loop-holds c = search needs
 
-mul-place : tie.Need-mul-place Inv-loop μ-loop
-mul-place c = search needs
+mul-words : tie.Need-mul-words Inv-loop μ-loop
+mul-words c = search needs
 
-index-1-place : tie.Need-index-1-place Inv-loop μ-loop
-index-1-place c = search needs
+index-1-words : tie.Need-index-1-words Inv-loop μ-loop
+index-1-words c = search needs
 
-mul-place-2 : tie.Need-mul-place-2 Inv-loop μ-loop
-mul-place-2 c = search needs
+mul-words-2 : tie.Need-mul-words-2 Inv-loop μ-loop
+mul-words-2 c = search needs
 
-index-1-place-2 : tie.Need-index-1-place-2 Inv-loop μ-loop
-index-1-place-2 c = search needs
+index-1-words-2 : tie.Need-index-1-words-2 Inv-loop μ-loop
+index-1-words-2 c = search needs
 
-place-requires : tie.Need-place-requires Inv-loop μ-loop
-place-requires c κs = search needs
+words-requires : tie.Need-words-requires Inv-loop μ-loop
+words-requires c κs = search needs
 
 returns : tie.Need-returns Inv-loop μ-loop
 returns c = search needs
@@ -49,11 +51,11 @@ rule-spec =
     Inv-loop
     μ-loop
     loop-holds
-    mul-place
-    index-1-place
-    mul-place-2
-    index-1-place-2
-    place-requires
+    mul-words
+    index-1-words
+    mul-words-2
+    index-1-words-2
+    words-requires
     returns
     add-j
     loop-less

@@ -1,0 +1,94 @@
+-- Laws of tracking in the words of the code's branches.
+-- Assumes nothing.
+use Prim.Native.Nat.{ℕ, _%_, _/_, _^_, _<_, _≤_}
+use mathlib.Core.Path.{_≡_, sym, ap, _∙_}
+use mathlib.Core.Bool.{false, not}
+use mathlib.Core.List.{List, []}
+use lib.ListN.{length, getD, set, length-map}
+use native.Mathlib.Omega.{arith}
+use borrow.Author.Tests.{eq-eqb, lt-ltb, le-ltb}
+use lib.Dec.{eqb}
+use Rattle.table.specs.declared.Room.{Room}
+use Rattle.conversations.specs.declared.Quad.{Quad}
+use Rattle.conversations.specs.declared.Turn.{Turn}
+use Rattle.conversations.specs.declared.Phase.{Phase}
+use Rattle.conversations.specs.declared.Phase.the-variants as phase
+use Rattle.conversations.specs.declared.Next.{Next}
+use Rattle.conversations.specs.declared.Progress.{Progress}
+use Rattle.conversations.specs.declared.Progress.the-variants as progress
+use Rattle.conversations.specs.Places.{Place, free, placeOf, placesOf}
+use Rattle.conversations.specs.Tracking.{
+  Tracked,
+  trackedAs,
+  holds,
+  heldAs,
+  phaseOf,
+  nextOf,
+  heldAt,
+  freeAt,
+  moved,
+  opened,
+  begun,
+  trackedIn,
+}
+use Rattle.conversations.proofs.ListLaws.{by-test, and-true, map-set}
+use Rattle.conversations.proofs.PlaceLaws.{place-at}
+use Rattle.conversations.proofs.HoldLaws.{holds-is}
+
+-- one place is stored
+pub stored : (v : Progress) (ps : List (List ℕ)) (i : ℕ) (x : List ℕ) (p : Place) → placeOf x ≡ p
+    → trackedAs v (set ps i x) ≡ record { progress = v; places = set (placesOf ps) i p }
+stored v ps i x p h =
+    let k = map-set placeOf ps i x ∙ ap (set (placesOf ps) i) h in
+    λ j. record { progress = v; places = k j }
+
+-- ---- a place holds the quadruple
+
+module _ (q : Quad) (w : List ℕ) where
+  -- one of its numbers differs
+  pub holds-not : (f : Quad → ℕ) → (f q ≡ f (placeOf w .quad) → ⊥) → false ≡ holds q (placeOf w)
+  holds-not f n = by-test (holds q (placeOf w)) (λ e. absurd (n (ap f (holds-is q (placeOf w) e .1)))) (λ e. sym e)
+
+  -- all three agree
+  pub holds-same : q .ports ≡ getD w 1 0 / 2 ^ 32 → q .source ≡ getD w 3 0 → q .destination ≡ getD w 5 0
+      → not (eqb (getD w 0 0 % 4) 0) ≡ holds q (placeOf w)
+  unfolding holds
+  holds-same p s d =
+      rw (eq-eqb (q .source) (getD w 3 0) s, eq-eqb (q .destination) (getD w 5 0) d, eq-eqb (q .ports) (getD w 1 0 / 2 ^ 32) p)
+      (and-true (not (eqb (getD w 0 0 % 4) 0)))
+
+-- ---- a new conversation
+
+module _ (m : Room) (q : Quad) (ps : List (List ℕ)) (n i : ℕ) (many : n ≡ m .places) (found : i ≡ freeAt (placesOf ps) n) where
+  at : i ≡ freeAt (placesOf ps) (m .places)
+  at = found ∙ ap (freeAt (placesOf ps)) many
+
+  pub open-yes : (x : List ℕ) → i < n → placeOf x ≡ heldAs q phase.Opening → trackedAs progress.Holds (set ps i x) ≡ opened m q (placesOf ps)
+  open-yes x h p =
+      rw (lt-ltb (freeAt (placesOf ps) (m .places)) (m .places) (omega (arith, at)))
+      (stored progress.Holds ps i x (heldAs q phase.Opening) p
+      ∙ ap (λ (k : ℕ). record { progress = progress.Holds; places = set (placesOf ps) k (heldAs q phase.Opening) }) at)
+
+  pub open-no : n ≤ i → trackedAs progress.NoPlaceFree ps ≡ opened m q (placesOf ps)
+  open-no h = rw (le-ltb (freeAt (placesOf ps) (m .places)) (m .places) (omega (arith, at)))
+
+-- ---- the conversation is held, or not
+
+module _ (m : Room) (g : Turn) (ps : List (List ℕ)) (i : ℕ) (found : i ≡ heldAt (g .quad) (placesOf ps)) (eight : length ps ≡ 8) where
+  many : length (placesOf ps) ≡ 8
+  many = length-map ps placeOf ∙ eight
+
+  pub track-held : (x : Tracked) (s : ℕ) (f : Phase) (n : Next) → i < 8 → s ≡ placeOf (getD ps i []) .state → f ≡ phaseOf s → n ≡ nextOf f (g .kind)
+      → x ≡ moved (g .quad) (placesOf ps) i n → x ≡ trackedIn m g (placesOf ps)
+  unfolding trackedIn
+  track-held x s f n h e d k o =
+      let p : n ≡ nextOf (phaseOf (getD (placesOf ps) i free .state)) (g .kind) =
+      k ∙ ap (λ (y : Phase). nextOf y (g .kind)) (d ∙ ap phaseOf (e ∙ ap (λ (y : Place). y .state) (sym (place-at ps i)))) in
+      rw (lt-ltb (heldAt (g .quad) (placesOf ps)) (length (placesOf ps)) (omega (arith, many)))
+      (o
+      ∙ ap (moved (g .quad) (placesOf ps) i) p
+      ∙ ap (λ (j : ℕ). moved (g .quad) (placesOf ps) j (nextOf (phaseOf (getD (placesOf ps) j free .state)) (g .kind))) found)
+
+  pub track-none : (x : Tracked) → 8 ≤ i → x ≡ begun m g (placesOf ps) (g .kind) → x ≡ trackedIn m g (placesOf ps)
+  unfolding trackedIn
+  track-none x h s = rw (le-ltb (heldAt (g .quad) (placesOf ps)) (length (placesOf ps)) (omega (arith, many))) s

@@ -1,0 +1,98 @@
+-- What a good table gives its readers.
+-- Assumes nothing.
+use Prim.Native.Nat.{ℕ, _<_, _≤_}
+use mathlib.Core.Path.{_≡_, refl, sym, _∙_}
+use mathlib.Core.Bool.{Bool, true, false, cond, _&&_, false≢true}
+use native.Mathlib.Omega.{arith}
+use borrow.Author.Tests.{ltb-true, ltb-false, leb-true, not-false}
+use lib.Dec.{ltb, leb}
+use Rattle.numbers.specs.Lists.{every, first, allBelow}
+use Rattle.numbers.proofs.Lists.{and-both, every-at, below-at, first-before}
+use Rattle.table.specs.Settings.{Setting, unset, set, of8, of32, ofKind}
+use Rattle.table.specs.Table.{mostRules, mostStates, isAllow, isTcp, trackingFrom, trackingOf, ruleAt, stateAt, marked}
+use Rattle.faults.specs.Faults.{mayTrack, fromTo, knownAction, halfGood, ruleTests, freshId, faulty, marksGood, stateGood, statesGood, faultOf}
+use Rattle.table.specs.declared.Rule.{Rule}
+use Rattle.table.specs.declared.Room.{Room}
+use Rattle.table.specs.declared.Table.{Table}
+use Rattle.table.specs.declared.Tracking.the-variants as tracking
+use Rattle.faults.specs.declared.Fault.the-variants as fault
+use Rattle.table.proofs.Prefixes.{none-beyond}
+
+-- the count, the rules and the states are good
+no-fault :
+    (a b c : Bool) (i : ℕ) → cond a (fault.At mostRules) (cond b (fault.At i) (cond c fault.Good (fault.At mostRules))) ≡ fault.Good
+    → (a ≡ false) × (b ≡ false) × (c ≡ true)
+no-fault true b c i e = let z : _≡_ {A = ℕ} 0 1 = cc in absurd (omega arith)
+no-fault false true c i e = let z : _≡_ {A = ℕ} 0 1 = cc in absurd (omega arith)
+no-fault false false true i e = (refl, refl, refl)
+no-fault false false false i e = let z : _≡_ {A = ℕ} 0 1 = cc in absurd (omega arith)
+
+module _ (t : Table) (good : faultOf t ≡ fault.Good) where
+  parts :
+      (ltb mostRules (t .rulecount) ≡ false)
+      × (ltb (first (faulty t) (t .rulecount)) (t .rulecount) ≡ false)
+      × (statesGood (t .rulecount) (t .statecount) (t .states) ≡ true)
+  unfolding faultOf
+  parts = no-fault (ltb mostRules (t .rulecount)) (ltb (first (faulty t) (t .rulecount)) (t .rulecount)) (statesGood (t .rulecount) (t .statecount) (t .states)) (first (faulty t) (t .rulecount)) good
+
+  pub good-count : t .rulecount ≤ mostRules
+  good-count = ltb-false mostRules (t .rulecount) (parts .0)
+
+  pub good-rule : (i : ℕ) → i < t .rulecount → every (ruleTests (freshId t i) (ruleAt t i)) ≡ true
+  unfolding faulty
+  good-rule i h =
+      not-false (every (ruleTests (freshId t i) (ruleAt t i)))
+      (first-before (faulty t) (t .rulecount) i (omega (arith, ltb-false (first (faulty t) (t .rulecount)) (t .rulecount) (parts .1))))
+
+  states : (leb 1 (t .statecount) ≡ true) × (leb (t .statecount) mostStates && allBelow (stateGood (t .rulecount) (t .states)) (t .statecount) ≡ true)
+  unfolding statesGood
+  states = and-both (leb 1 (t .statecount)) (leb (t .statecount) mostStates && allBelow (stateGood (t .rulecount) (t .states)) (t .statecount)) (parts .2)
+
+  counted : (leb (t .statecount) mostStates ≡ true) × (allBelow (stateGood (t .rulecount) (t .states)) (t .statecount) ≡ true)
+  counted = and-both (leb (t .statecount) mostStates) (allBelow (stateGood (t .rulecount) (t .states)) (t .statecount)) (states .1)
+
+  pub good-states : (1 ≤ t .statecount) × (t .statecount ≤ mostStates)
+  good-states = (leb-true 1 (t .statecount) (states .0), leb-true (t .statecount) mostStates (counted .0))
+
+  -- a mark has a rule
+  pub good-marks : (k i : ℕ) → k < t .statecount → marked (stateAt t k .marks) i ≡ true → i < t .rulecount
+  unfolding marked marksGood
+  good-marks k i h m = go (ltb i (t .rulecount)) refl
+    where
+      go : (b : Bool) → ltb i (t .rulecount) ≡ b → i < t .rulecount
+      go true e = ltb-true i (t .rulecount) e
+      go false e =
+          absurd (false≢true (sym (none-beyond (stateAt t k .marks) (t .rulecount) i (and-both (knownAction (stateAt t k .default)) (marksGood (t .rulecount) (stateAt t k .marks)) (below-at (stateGood (t .rulecount) (t .states)) (t .statecount) k (counted .1) h) .1) (ltb-false i (t .rulecount) e)) ∙ m))
+
+  -- "ids 0 to 65,534"
+  pub good-id : (i : ℕ) → i < t .rulecount → ruleAt t i .id ≤ 65534
+  unfolding ruleTests
+  good-id i h =
+      leb-true (ruleAt t i .id) 65534 (and-both (leb (ruleAt t i .id) 65534) (freshId t i) (every-at (ruleTests (freshId t i) (ruleAt t i)) 0 (good-rule i h)) .0)
+
+-- "1-8 places and an idle limit of 1-600,000 ms"
+tracks :
+    (x y : Setting ℕ) (may : Bool) (m : Room) → halfGood 8 x y may ≡ true → halfGood 600000 y x may ≡ true
+    → trackingFrom x y ≡ tracking.Set m
+    → ((1 ≤ m .places) × (m .places ≤ 8) × (1 ≤ m .limit) × (m .limit ≤ 600000)) × (may ≡ true)
+tracks unset y may m a b e = let z : _≡_ {A = ℕ} 0 1 = cc in absurd (omega arith)
+tracks (set p) unset may m a b e = let z : _≡_ {A = ℕ} 0 1 = cc in absurd (omega arith)
+tracks (set p) (set l) may m a b e =
+    let f : _≡_ {A = Room} (record { places = p; limit = l }) m = cc in
+    let g = and-both (fromTo 1 8 p && true) may a in
+    let h = and-both (fromTo 1 600000 l && true) may b in
+    let u = and-both (leb 1 p) (leb p 8) (and-both (fromTo 1 8 p) true (g .0) .0) in
+    let v = and-both (leb 1 l) (leb l 600000) (and-both (fromTo 1 600000 l) true (h .0) .0) in
+    ((rw (← f) (leb-true 1 p (u .0)), rw (← f) (leb-true p 8 (u .1)), rw (← f) (leb-true 1 l (v .0)), rw (← f) (leb-true l 600000 (v .1))), g .1)
+
+module _ (fresh : Bool) (r : Rule) (good : every (ruleTests fresh r) ≡ true) (m : Room) (e : trackingOf r ≡ tracking.Set m) where
+  tracked : ((1 ≤ m .places) × (m .places ≤ 8) × (1 ≤ m .limit) × (m .limit ≤ 600000)) × (mayTrack r ≡ true)
+  unfolding ruleTests trackingOf
+  tracked = tracks (of8 (r .tracking .places)) (of32 (r .tracking .limit)) (mayTrack r) m (every-at (ruleTests fresh r) 20 good) (every-at (ruleTests fresh r) 21 good) e
+
+  pub good-tracking : (1 ≤ m .places) × (m .places ≤ 8) × (1 ≤ m .limit) × (m .limit ≤ 600000)
+  good-tracking = tracked .0
+
+  -- only on an allow rule of kind TCP
+  pub good-tracked : (isAllow (r .action) ≡ true) × (isTcp (ofKind (r .transport .kind)) ≡ true)
+  good-tracked = and-both (isAllow (r .action)) (isTcp (ofKind (r .transport .kind))) (tracked .1)

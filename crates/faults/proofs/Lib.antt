@@ -1,0 +1,4 @@
+pub mod Rules
+pub mod Unset
+pub mod FirstFault
+pub mod Good

@@ -1,0 +1,3 @@
+pub mod TableT
+pub mod Frames
+pub mod Worked
