@@ -8,7 +8,7 @@ use lib.Dec.{ltb, eqb}
 use Rattle.numbers.specs.Lists.{every, everyOf, allBelow}
 use Rattle.table.specs.declared.Tracking.{Tracking}
 use Rattle.table.specs.declared.Tracking.the-variants as tracking
-use Rattle.conversations.specs.Places.{Unused, Place, free, isFree, mostPlaces}
+use Rattle.conversations.specs.Places.{Unused, Place, free, isFree, mostPlaces, placesOf}
 use Rattle.conversations.specs.Tracking.{holds}
 use Rattle.conversations.specs.declared.Quad.{Quad}
 
@@ -86,3 +86,11 @@ placesTests n limit ps =
     ∷ everyOf (young limit) ps
     ∷ everyOf clean ps
     ∷ []
+
+-- the words of the places of a rule without tracking: all as in a fresh record
+abbrev pub isEmpty : List (List ℕ) → Bool
+isEmpty ps = every (placesTests 0 0 (placesOf ps))
+
+-- of the slot at k, where it is one from n on
+abbrev pub emptyFrom : ℕ → List (List (List ℕ)) → ℕ → Bool
+emptyFrom n all k = ltb k n || isEmpty (getD all k [])

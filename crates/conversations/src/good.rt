@@ -1,16 +1,18 @@
 // Are the places of one rule good?
 ghost use mathlib.Core.Path.{_≡_};
-ghost use Prim.Native.Nat.{_<_};
+ghost use Prim.Native.Nat.{_<_, _≤_};
 ghost use lib.Dec.{eqb};
-ghost use Rattle.numbers.specs.Lists.{every};
+ghost use Rattle.numbers.specs.Lists.{every, allBelow};
+ghost use Rattle.table.specs.Table.{mostRules};
 ghost use Rattle.conversations.specs.Places.{placeOf, placesOf, mostPlaces};
-ghost use Rattle.conversations.specs.Good.{isFresh, isPlain, placeGood, eachGood, alone, once, placesTests};
+ghost use Rattle.conversations.specs.Good.{isFresh, isPlain, placeGood, eachGood, alone, once, placesTests, isEmpty, emptyFrom};
 use crate::place::quad;
 use crate::shape::*;
 use crate::stamps::are_distinct;
 use crate::stamps::stamps;
 use crate::track::is_held_by;
 use crate::*;
+use table::RULES;
 use table::Room;
 
 // All words in one: zero where the place is as in a fresh record, and only there.
@@ -73,9 +75,9 @@ fn is_alone(j: usize, ps: &RulePlaces) -> bool
     true
 }
 
-// The places of a rule without tracking.
-pub fn good_empty(ps: &RulePlaces) -> bool
-    ensures { λ r. ⌜ r ≡ every (placesTests 0 0 (placesOf (now (ps .entry)))) ⌝ }
+// All words of the places of a rule in one: zero where they are as in a fresh record, and only there.
+fn filled_rule(ps: &RulePlaces) -> u64
+    ensures { λ r. ⌜ eqb r 0 ≡ isEmpty (now (ps .entry)) ⌝ }
 {
     tell_places(*ps);
     let mut any = 0;
@@ -83,6 +85,28 @@ pub fn good_empty(ps: &RulePlaces) -> bool
     while j < PLACES {
         any = any | filled(&ps[j]);
         j += 1;
+    }
+    any
+}
+
+// The places of a rule without tracking.
+pub fn good_empty(ps: &RulePlaces) -> bool
+    ensures { λ r. ⌜ r ≡ isEmpty (now (ps .entry)) ⌝ }
+{
+    filled_rule(ps) == 0
+}
+
+// The places of all slots from one on, which have no rule: one straight walk over their words.
+pub fn good_beyond(from: usize, all: &AllPlaces) -> bool
+    requires { ⌜ from ≤ mostRules ⌝ }
+    ensures { λ r. ⌜ r ≡ allBelow (emptyFrom from (now (all .entry))) mostRules ⌝ }
+{
+    tell_all(*all);
+    let mut any = 0;
+    let mut i = from;
+    while i < RULES {
+        any = any | filled_rule(&all[i]);
+        i += 1;
     }
     any == 0
 }

@@ -7,6 +7,8 @@ mod shape;
 mod stamps;
 pub mod track;
 
+use table::RULES;
+
 // The words of a place, from the lowest bit up, in bits. What has no meaning yet must be zero, or the record is bad.
 // 0: state 2 (0 free, 1 Opening, 2 Running, 3 Closing), kind 1 and socket 1 (no meaning yet), age in ms 60
 // 1: expected number 32 (no meaning yet), both ports 32
@@ -14,8 +16,10 @@ pub mod track;
 // 4, 5: destination address, likewise
 pub type PlaceWords = [u64; PLACE_WORDS];
 
-// The places of one rule.
+// The places of one rule, and those of all rules.
 pub type RulePlaces = [PlaceWords; PLACES];
+
+pub type AllPlaces = [RulePlaces; RULES];
 
 pub const PLACE_WORDS: usize = 6;
 

@@ -1,6 +1,6 @@
 -- Laws of good records in the words of the code's branches.
 -- Assumes nothing.
-use Prim.Native.Nat.{ℕ, _<_, min}
+use Prim.Native.Nat.{ℕ, _<_, _≤_, min}
 use mathlib.Core.Path.{_≡_, refl, sym, ap, ap₂, _∙_}
 use mathlib.Core.Bool.{Bool, true, false, cond, _&&_, _||_}
 use mathlib.Core.List.{List, []}
@@ -9,7 +9,7 @@ use lib.Dec.{ltb, leb, eqb}
 use native.Mathlib.Omega.{arith}
 use borrow.Author.Tests.{lt-ltb, le-ltb, le-leb, eqb-true}
 use Rattle.numbers.specs.Lists.{every, allBelow}
-use Rattle.numbers.proofs.Lists.{and-both, and-true-true}
+use Rattle.numbers.proofs.Lists.{and-both, and-true-true, below-all, below-at}
 use Rattle.table.specs.declared.Rule.{Rule}
 use Rattle.table.specs.declared.Table.{Table}
 use Rattle.table.specs.declared.Bucket.{Bucket}
@@ -19,10 +19,10 @@ use Rattle.table.specs.Table.{noRule, ruleAt, bucketOf, trackingOf}
 use Rattle.table.specs.Table as table
 use Rattle.table.specs.Words.{ruleIn, tableIn}
 use Rattle.table.proofs.Rows.{rule-at}
-use Rattle.conversations.specs.Good.{placesIn, limitIn, placesTests}
-use Rattle.conversations.proofs.ListLaws.{by-less, both-ways, and-true, and-assoc}
+use Rattle.conversations.specs.Good.{placesIn, limitIn, placesTests, isEmpty, emptyFrom}
+use Rattle.conversations.proofs.ListLaws.{by-less, both-ways, and-true, and-assoc, or-first, or-second, or-rest}
 use Rattle.records.specs.Records.{RuleRecord, noRecord, ruleOf, rulesOf, recordsOf, lent}
-use Rattle.records.specs.Good.{hasBucket, levelGood, recordTests, recordGood, ruleOfRecord, recordsGood}
+use Rattle.records.specs.Good.{hasBucket, levelGood, recordTests, recordGood, ruleOfRecord, levelFrom, slotsGood, recordsGood}
 use Rattle.records.proofs.GoodLaws.{rule-within, rule-beyond}
 use Rattle.records.proofs.WordLaws.{rules-at}
 
@@ -68,22 +68,56 @@ none-is x a b e f = rw (e, f) (sym (good-is noRule x))
 
 -- ---- all rules
 
-pub rule-is : (t : Table) (i : ℕ) → cond (ltb i (t .rulecount)) (ruleAt t i) noRule ≡ ruleOfRecord t i
-rule-is t i =
-    by-less i (t .rulecount) (λ h. ap (λ (b : Bool). cond b (ruleAt t i) noRule) (lt-ltb i (t .rulecount) h) ∙ sym (rule-within t i h))
-    (λ h. ap (λ (b : Bool). cond b (ruleAt t i) noRule) (le-ltb i (t .rulecount) h) ∙ sym (rule-beyond t i h))
-
 abbrev pub goodAt : Table → List (List ℕ) → List (List (List ℕ)) → ℕ → Bool
 goodAt t cs ps i = recordGood (ruleOfRecord t i) (getD (rulesOf cs ps) i noRecord)
 
--- the row at i, with the count that the code read
-pub rules-good : (t cs : List (List ℕ)) (ps : List (List (List ℕ))) (n i : ℕ) (b : Bool) → n ≡ tableIn t .rulecount → i < 64 → i < length cs
-    → b ≡ recordGood (cond (ltb i n) (ruleIn (getD t i [])) noRule) (ruleOf (getD cs i []) (getD ps i [])) → b ≡ goodAt (tableIn t) cs ps i
-rules-good t cs ps n i b k m h e =
+-- the row at i, which has a rule
+pub rule-good : (t cs : List (List ℕ)) (ps : List (List (List ℕ))) (i : ℕ) (b : Bool) → i < tableIn t .rulecount → i < 64 → i < length cs
+    → b ≡ recordGood (ruleIn (getD t i [])) (ruleOf (getD cs i []) (getD ps i [])) → b ≡ goodAt (tableIn t) cs ps i
+rule-good t cs ps i b k m h e =
     e
-    ∙ ap (λ (r : Rule). recordGood r (ruleOf (getD cs i []) (getD ps i [])))
-    (ap₂ (λ (n : ℕ) (r : Rule). cond (ltb i n) r noRule) k (sym (rule-at t i m)) ∙ rule-is (tableIn t) i)
+    ∙ ap (λ (r : Rule). recordGood r (ruleOf (getD cs i []) (getD ps i []))) (sym (rule-at t i m) ∙ sym (rule-within (tableIn t) i k))
     ∙ ap (recordGood (ruleOfRecord (tableIn t) i)) (sym (rules-at cs ps i h))
+
+-- a slot without a rule
+slot-is : (t : Table) (cs : List (List ℕ)) (ps : List (List (List ℕ))) (k : ℕ) → t .rulecount ≤ k → k < length cs
+    → (eqb (getD (getD cs k []) 0 0) 0 && isEmpty (getD ps k [])) ≡ goodAt t cs ps k
+slot-is t cs ps k g h =
+    none-is (ruleOf (getD cs k []) (getD ps k [])) _ _ (level-unset (getD (getD cs k []) 0 0)) refl
+    ∙ ap (recordGood noRule) (sym (rules-at cs ps k h))
+    ∙ ap (λ (r : Rule). recordGood r (getD (rulesOf cs ps) k noRecord)) (sym (rule-beyond t k g))
+
+-- the rules are good, so all are good exactly when the slots behind them are
+module _ (t : Table) (cs : List (List ℕ)) (ps : List (List (List ℕ))) (n : ℕ) (is : n ≡ min (t .rulecount) 64) (long : length cs ≡ 65)
+    (rules : allBelow (goodAt t cs ps) n ≡ true) where
+  beyond : (k : ℕ) → n ≤ k → k < 64 → t .rulecount ≤ k
+  beyond k g h = omega arith
+
+  pub slots-are : slotsGood n cs ps ≡ allBelow (goodAt t cs ps) 64
+  slots-are =
+      both-ways (slotsGood n cs ps) (allBelow (goodAt t cs ps) 64)
+      (λ e.
+      let b = and-both (allBelow (levelFrom n cs) 64) (allBelow (emptyFrom n ps) 64) e in
+      below-all (goodAt t cs ps) 64
+      (λ k m. by-less k n (λ h. below-at (goodAt t cs ps) n k rules h)
+      (λ h.
+      sym (slot-is t cs ps k (beyond k h m) (omega arith))
+      ∙ and-true-true
+      (or-rest (ltb k n) _ (below-at (levelFrom n cs) 64 k (b .0) m) (le-ltb k n h))
+      (or-rest (ltb k n) _ (below-at (emptyFrom n ps) 64 k (b .1) m) (le-ltb k n h)))))
+      (λ e. and-true-true (below-all (levelFrom n cs) 64 (λ k m. behind k (levels e k m))) (below-all (emptyFrom n ps) 64 (λ k m. behind k (empties e k m))))
+    where
+      good : allBelow (goodAt t cs ps) 64 ≡ true → (k : ℕ) → k < 64 → n ≤ k → (eqb (getD (getD cs k []) 0 0) 0 && isEmpty (getD ps k [])) ≡ true
+      good e k m h = slot-is t cs ps k (beyond k h m) (omega arith) ∙ below-at (goodAt t cs ps) 64 k e m
+
+      levels : allBelow (goodAt t cs ps) 64 ≡ true → (k : ℕ) → k < 64 → n ≤ k → eqb (getD (getD cs k []) 0 0) 0 ≡ true
+      levels e k m h = and-both (eqb (getD (getD cs k []) 0 0) 0) (isEmpty (getD ps k [])) (good e k m h) .0
+
+      empties : allBelow (goodAt t cs ps) 64 ≡ true → (k : ℕ) → k < 64 → n ≤ k → isEmpty (getD ps k []) ≡ true
+      empties e k m h = and-both (eqb (getD (getD cs k []) 0 0) 0) (isEmpty (getD ps k [])) (good e k m h) .1
+
+      behind : (k : ℕ) {b : Bool} → (n ≤ k → b ≡ true) → (ltb k n || b) ≡ true
+      behind k {b} h = by-less k n (λ lt. or-first (ltb k n) b (lt-ltb k n lt)) (λ ge. or-second (ltb k n) b (h ge))
 
 -- a table's words have 64 rules
 pub rules-64 : (t : List (List ℕ)) → length t ≡ 73 → length (tableIn t .rules) ≡ 64

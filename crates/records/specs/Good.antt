@@ -3,7 +3,7 @@
 use Prim.Native.Nat.{ℕ, _≤_}
 use mathlib.Core.Path.{_≡_}
 use mathlib.Core.Bool.{Bool, true, false, _&&_, _||_}
-use mathlib.Core.List.{List, _∷_}
+use mathlib.Core.List.{List, [], _∷_}
 use lib.ListN.{getD}
 use lib.Dec.{ltb, leb, eqb}
 use Rattle.numbers.specs.Lists.{every, allBelow}
@@ -12,9 +12,9 @@ use Rattle.table.specs.declared.Table.{Table}
 use Rattle.table.specs.declared.Bucket.{Bucket}
 use Rattle.table.specs.declared.Bucket.the-variants as bucket
 use Rattle.table.specs.Table.{noRule, rulesOf, bucketOf, trackingOf}
-use Rattle.conversations.specs.Good.{placesIn, limitIn, placesTests}
+use Rattle.conversations.specs.Good.{placesIn, limitIn, placesTests, emptyFrom}
 use Rattle.table.specs.Table.{mostRules}
-use Rattle.records.specs.Records.{RuleRecord, noRecord, Records, recordAt, countRows}
+use Rattle.records.specs.Records.{RuleRecord, noRecord, Records, recordAt, countRows, levelWord}
 
 -- the rule has a bucket
 abbrev pub hasBucket : Bucket → Bool
@@ -51,6 +51,14 @@ recordsGood t s = ltb (s .state) (t .statecount) && allBelow (recordGoodAt t s) 
 -- the records of the rules, without the default's
 abbrev pub rulesGood : Table → List RuleRecord → Bool
 rulesGood t xs = allBelow (λ i. recordGood (ruleOfRecord t i) (getD xs i noRecord)) mostRules
+
+-- the slot at k has no level, where it is one from n on
+abbrev pub levelFrom : ℕ → List (List ℕ) → ℕ → Bool
+levelFrom n cs k = ltb k n || eqb (getD (getD cs k []) levelWord 0) 0
+
+-- the slots from n on, which have no rule: no level, and places as in a fresh record
+abbrev pub slotsGood : ℕ → List (List ℕ) → List (List (List ℕ)) → Bool
+slotsGood n cs ps = allBelow (levelFrom n cs) mostRules && allBelow (emptyFrom n ps) mostRules
 
 -- what the step of time asks: a table of at most 64 rules, and a good record
 pub record MayTick (t : Table) (s : Records) : Type 0 where

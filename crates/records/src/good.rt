@@ -1,13 +1,15 @@
 // Are the records good?
 ghost use mathlib.Core.Path.{_≡_};
-ghost use mathlib.Core.Bool.{cond};
-ghost use Rattle.table.specs.Table.{noRule};
+ghost use Prim.Native.Nat.{_≤_, min};
+ghost use Rattle.numbers.specs.Lists.{allBelow};
+ghost use Rattle.table.specs.Table.{mostRules};
 ghost use Rattle.table.specs.Words.{ruleIn, tableIn};
 ghost use Rattle.records.specs.Records.{ruleOf, rulesOf, recordsOf, before};
-ghost use Rattle.records.specs.Good.{levelGood, recordGood, rulesGood, recordsGood};
+ghost use Rattle.records.specs.Good.{levelGood, recordGood, levelFrom, slotsGood, rulesGood, recordsGood};
 use crate::shape::*;
 use crate::*;
 use conversations::RulePlaces;
+use conversations::good::good_beyond;
 use conversations::good::good_empty;
 use conversations::good::good_room;
 use table::Bucket;
@@ -43,21 +45,36 @@ fn good_rule(r: &RuleWords, c: &CountWords, ps: &RulePlaces) -> bool
     }
 }
 
-// A place without a rule.
-fn good_none(c: &CountWords, ps: &RulePlaces) -> bool
-    ensures { λ x. ⌜ x ≡ recordGood noRule (ruleOf (now (c .entry)) (now (ps .entry))) ⌝ }
+// No slot from one on has a level: it has no rule, and so no bucket.
+fn no_levels(from: usize, counts: &Counts) -> bool
+    requires { ⌜ from ≤ mostRules ⌝ }
+    ensures { λ r. ⌜ r ≡ allBelow (levelFrom from (now (counts .entry))) mostRules ⌝ }
 {
-    good_level(Bucket::Unset, c[LEVEL]) & good_empty(ps)
+    tell_count_rows(*counts);
+    let mut any = 0;
+    let mut i = from;
+    while i < RULES {
+        any = any | counts[i][LEVEL];
+        i += 1;
+    }
+    any == 0
 }
 
-fn good_at(is: bool, r: &RuleWords, c: &CountWords, ps: &RulePlaces) -> bool
-    ensures { λ x. ⌜ x ≡ recordGood (cond is (ruleIn (now (r .entry))) noRule) (ruleOf (now (c .entry)) (now (ps .entry))) ⌝ }
+// The slots that have no rule, all together.
+fn good_slots(from: usize, counts: &Counts, places: &Places) -> bool
+    requires { ⌜ from ≤ mostRules ⌝ }
+    ensures { λ r. ⌜ r ≡ slotsGood from (now (counts .entry)) (now (places .entry)) ⌝ }
 {
-    if is {
-        good_rule(r, c, ps)
-    } else {
-        good_none(c, ps)
-    }
+    no_levels(from, counts) & good_beyond(from, places)
+}
+
+// How many slots have a rule.
+fn slots(t: &TableWords) -> usize
+    ensures rules { λ n. ⌜ n ≡ min (tableIn (now (t .entry)) .rulecount) mostRules ⌝ }
+    ensures bound { λ n. ⌜ n ≤ mostRules ⌝ }
+{
+    let n = words::rulecount(t);
+    if n < RULES { n } else { RULES }
 }
 
 fn good_rules(t: &TableWords, counts: &Counts, places: &Places) -> bool
@@ -65,16 +82,16 @@ fn good_rules(t: &TableWords, counts: &Counts, places: &Places) -> bool
 {
     tell_rows(*counts, *places);
     words::tell_table(*t);
-    let n = words::rulecount(t);
+    let n = slots(t);
     let mut i: usize = 0;
-    while i < RULES {
-        if good_at(i < n, &t[i], &counts[i], &places[i]) {
+    while i < n {
+        if good_rule(&t[i], &counts[i], &places[i]) {
             i += 1;
         } else {
             return false;
         }
     }
-    true
+    good_slots(n, counts, places)
 }
 
 pub fn good(t: &TableWords, head: &Head, counts: &Counts, places: &Places) -> bool

@@ -7,7 +7,7 @@ pub mod shape;
 pub mod time;
 pub mod verdict;
 
-use conversations::RulePlaces;
+use conversations::AllPlaces;
 use table::RULES;
 
 // Last reading, active state.
@@ -15,7 +15,7 @@ pub type Head = [u64; HEAD_WORDS];
 // Per rule level, passed, blocked; the last row is the default's.
 pub type Counts = [CountWords; COUNT_ROWS];
 // Per rule its places for conversations; the default has none.
-pub type Places = [RulePlaces; RULES];
+pub type Places = AllPlaces;
 
 pub type CountWords = [u32; COUNT_WORDS];
 

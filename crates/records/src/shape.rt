@@ -13,6 +13,10 @@ pub(crate) fn tell_head(w: Head)
     ensures { λ r. ⌜ length w ≡ headSize ⌝ }
 {}
 
+pub(crate) fn tell_count_rows(c: Counts)
+    ensures { λ r. ⌜ length c ≡ countRows ⌝ }
+{}
+
 pub(crate) fn tell_rows(c: Counts, p: Places)
     ensures counts { λ r. ⌜ length c ≡ countRows ⌝ }
     ensures places { λ r. ⌜ length p ≡ mostRules ⌝ }

@@ -1,4 +1,4 @@
--- `conversations::good::good_empty` meets its contract.
+-- `conversations::good::filled_rule` meets its contract.
 -- Assumes nothing.
 use Prim.Native.Nat.{_≤_, _-_}
 use mathlib.Core.Path.{_≡_, sym, ap, _∙_}
@@ -12,8 +12,8 @@ use Rattle.conversations.proofs.PlaceLaws.{place-at}
 use Rattle.conversations.proofs.GoodCode.{or-zero, freshAt, below-more, empty-is}
 use borrow.Author.Needs.{needs}
 use native.Mathlib.Omega.{arith}
-use Rattle.conversations.proofs.good.good_empty.Statement.{statement}
-use Rattle.conversations.proofs.good.good_empty.Tie as tie
+use Rattle.conversations.proofs.good.filled_rule.Statement.{statement}
+use Rattle.conversations.proofs.good.filled_rule.Tie as tie
 
 abbrev Inv-loop : tie.InvT-loop
 Inv-loop ps any₀ j₀ any j = (j ≤ 8) × (eqb any 0 ≡ allBelow (freshAt (placesOf ps)) j)
@@ -53,8 +53,8 @@ returns c = let ps = c .before .before .before .before .args .ps .now in
     let e : l .j ≡ 8 = omega arith in
     l .inv .1 ∙ ap (allBelow (freshAt (placesOf ps))) e ∙ empty-is (placesOf ps) (length-map ps placeOf ∙ c .before .before .tell-places .ensures)
 
-pub good-empty-spec : {M : Type 1} → statement M
-good-empty-spec =
+pub filled-rule-spec : {M : Type 1} → statement M
+filled-rule-spec =
     tie.close
     (tie.spec
     Inv-loop
