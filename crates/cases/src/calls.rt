@@ -207,7 +207,8 @@ fn earlier(
     counts: &mut Counts,
     places: &mut Places,
 ) -> u64
-    requires { ⌜ (room ≤ 512) × (length ≤ 2048) ⌝ }
+    requires room { ⌜ room ≤ 512 ⌝ }
+    requires length { ⌜ length ≤ 2048 ⌝ }
 {
     let bytes = &image[..];
     let end = 12 + length;
@@ -243,7 +244,8 @@ fn judged(
     out: &mut [u8; 65536],
     used: &mut usize,
 )
-    requires { ⌜ (room ≤ 512) × (length ≤ 2048) ⌝ }
+    requires room { ⌜ room ≤ 512 ⌝ }
+    requires length { ⌜ length ≤ 2048 ⌝ }
 {
     let mut space = [170u8; 512];
     let bytes = &image[..];

@@ -1,17 +1,16 @@
 // The image of a table and that of records, taken apart.
 ghost use Prim.Native.Nat.{_+_, _≤_, _<_};
-use conversations::PLACE_WORDS;
-use conversations::PLACES;
-use conversations::PlaceWords;
-use conversations::RulePlaces;
-use conversations::place::ipv4_quad;
-use conversations::place::phase_of;
-use conversations::place::place_words;
 use numbers::count8;
 use numbers::read16;
 use numbers::read32;
 use numbers::read48;
 use numbers::wide64;
+use places::PLACE_WORDS;
+use places::PlaceWords;
+use places::RulePlaces;
+use places::place::ipv4_quad;
+use places::place::phase_of;
+use places::place::place_words;
 use records::Counts;
 use records::Head;
 use records::Places;
@@ -20,6 +19,7 @@ use table::Ipv4Settings;
 use table::Kind;
 use table::KindSetting;
 use table::LinkSettings;
+use table::PLACES;
 use table::Prefix;
 use table::PrefixSetting;
 use table::Range;
@@ -63,7 +63,8 @@ fn is_set(set: u32, bit: u32) -> bool
 }
 
 fn setting8(r: &RuleImage, at: usize, set: u32, bit: u32) -> Setting8
-    requires { ⌜ (at < 192) × (bit < 32) ⌝ }
+    requires at { ⌜ at < 192 ⌝ }
+    requires bit { ⌜ bit < 32 ⌝ }
 {
     if is_set(set, bit) {
         Setting8::Set(r[at])
@@ -73,7 +74,8 @@ fn setting8(r: &RuleImage, at: usize, set: u32, bit: u32) -> Setting8
 }
 
 fn setting16(r: &RuleImage, at: usize, set: u32, bit: u32) -> Setting16
-    requires { ⌜ (at + 2 ≤ 192) × (bit < 32) ⌝ }
+    requires at { ⌜ at + 2 ≤ 192 ⌝ }
+    requires bit { ⌜ bit < 32 ⌝ }
 {
     if is_set(set, bit) {
         Setting16::Set(read16(r, at))
@@ -83,7 +85,8 @@ fn setting16(r: &RuleImage, at: usize, set: u32, bit: u32) -> Setting16
 }
 
 fn setting32(r: &RuleImage, at: usize, set: u32, bit: u32) -> Setting32
-    requires { ⌜ (at + 4 ≤ 192) × (bit < 32) ⌝ }
+    requires at { ⌜ at + 4 ≤ 192 ⌝ }
+    requires bit { ⌜ bit < 32 ⌝ }
 {
     if is_set(set, bit) {
         Setting32::Set(read32(r, at))
@@ -93,7 +96,8 @@ fn setting32(r: &RuleImage, at: usize, set: u32, bit: u32) -> Setting32
 }
 
 fn setting48(r: &RuleImage, at: usize, set: u32, bit: u32) -> Setting64
-    requires { ⌜ (at + 6 ≤ 192) × (bit < 32) ⌝ }
+    requires at { ⌜ at + 6 ≤ 192 ⌝ }
+    requires bit { ⌜ bit < 32 ⌝ }
 {
     if is_set(set, bit) {
         Setting64::Set(read48(r, at))
@@ -103,7 +107,8 @@ fn setting48(r: &RuleImage, at: usize, set: u32, bit: u32) -> Setting64
 }
 
 fn prefix(r: &RuleImage, at: usize, set: u32, bit: u32) -> PrefixSetting
-    requires { ⌜ (at + 5 ≤ 192) × (bit < 32) ⌝ }
+    requires at { ⌜ at + 5 ≤ 192 ⌝ }
+    requires bit { ⌜ bit < 32 ⌝ }
 {
     if is_set(set, bit) {
         PrefixSetting::Set(Prefix {
@@ -116,7 +121,8 @@ fn prefix(r: &RuleImage, at: usize, set: u32, bit: u32) -> PrefixSetting
 }
 
 fn range(r: &RuleImage, at: usize, set: u32, bit: u32) -> RangeSetting
-    requires { ⌜ (at + 4 ≤ 192) × (bit < 32) ⌝ }
+    requires at { ⌜ at + 4 ≤ 192 ⌝ }
+    requires bit { ⌜ bit < 32 ⌝ }
 {
     if is_set(set, bit) {
         RangeSetting::Set(Range {

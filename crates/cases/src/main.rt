@@ -5,20 +5,20 @@ mod input;
 mod output;
 mod print;
 
-use conversations::PLACE_WORDS;
-use conversations::PLACES;
 use image::Image;
 use input::Got;
+use places::PLACE_WORDS;
 use records::COUNT_ROWS;
-use records::COUNT_WORDS;
 use records::Counts;
 use records::HEAD_WORDS;
 use records::Head;
 use records::Places;
+use table::PLACES;
 use table::RULES;
 use table::words::ROW_WORDS;
 use table::words::ROWS;
 use table::words::TableWords;
+use verdicts::COUNT_WORDS;
 
 // The calls one after the other, with the table and the records held from one to the next. Nothing says that an input
 // ends, so the turns are counted down from a number that no run uses up.

@@ -1,10 +1,3 @@
-pub mod ListLaws
-pub mod ShapeLaws
-pub mod PlaceLaws
-pub mod AgeingLaws
-pub mod HoldLaws
-pub mod PlacesLaws
 pub mod ScanLaws
 pub mod TrackLaws
-pub mod GoodCode
-pub mod StampLaws
+pub mod KeptLaws

@@ -1,8 +1,8 @@
 -- The scan finds the first place that holds the quadruple and the first free place, as the places have them.
 -- Assumes nothing.
-use Prim.Native.Nat.{ℕ, suc, _+_, min, _<_, _≤_}
+use Prim.Native.Nat.{ℕ, suc, _+_, _<_, _≤_}
 use mathlib.Core.Path.{_≡_, refl, sym, ap, subst, _∙_}
-use mathlib.Core.Bool.{Bool, true, false, cond, _&&_, not, and-assoc, and-true, and-false, false≢true}
+use mathlib.Core.Bool.{Bool, true, false, cond, _&&_, not, and-assoc, and-true, and-false}
 use mathlib.Core.List.{List, [], _∷_, map, map-append}
 use lib.ListN.{length, getD, set, take, drop, length-map, List·getD-map, drop-of-length-le}
 use lib.Seq.{take-suc, take-suc-set, take-all, drop-cons}
@@ -10,13 +10,12 @@ use lib.Dec.{ltb, eqb}
 use native.Mathlib.Numerals.{add-one}
 use native.Mathlib.Nat.{add-zero, zero-add}
 use native.Mathlib.Omega.{arith}
-use borrow.Author.Tests.{lt-ltb, le-ltb, ltb-true, ltb-false}
+use borrow.Author.Tests.{lt-ltb, le-ltb}
 use Rattle.numbers.specs.Lists.{firstFrom, first}
-use Rattle.numbers.proofs.Lists.{first-le, first-holds, first-before, first-is}
-use Rattle.conversations.specs.Places.{Place, free, isFree, placeOf, placesOf}
-use Rattle.conversations.specs.Tracking.{holds, heldAt, freeAt}
+use Rattle.places.specs.Places.{Place, free, isFree, placeOf, placesOf, holds}
+use Rattle.conversations.specs.Tracking.{heldAt, freeAt}
 use Rattle.conversations.specs.Scan.{shown, vacant, shows, seenBy, scanFrom, nowhere, scanOf}
-use Rattle.conversations.specs.declared.Quad.{Quad}
+use Rattle.places.specs.declared.Quad.{Quad}
 use Rattle.conversations.specs.declared.scan.Conversation.{Conversation}
 use Rattle.conversations.specs.declared.scan.Found.{Found}
 
@@ -138,27 +137,12 @@ pub scan-free : (q : Quad) (ps : List Place) → scanOf q (map shown ps) .free �
 unfolding seenBy
 scan-free q ps = found-first q (λ f. f .free) vacant (λ c i f. refl) isFree (λ p. refl) ps refl
 
-pub found-eight :
+pub found-all :
     (q : Quad) (cs : List Conversation) (ps : List Place) (r : Found) → length cs ≡ 8 → cs ≡ map shown ps → r ≡ scanOf q cs
     → (r .held ≡ heldAt q ps) × (r .free ≡ freeAt ps 8)
-found-eight q cs ps r n e h =
+found-all q cs ps r n e h =
     let so = h ∙ ap (scanOf q) e in (
       ap (λ (f : Found). f .held) so ∙ scan-held q ps,
       ap (λ (f : Found). f .free) so ∙ scan-free q ps
           ∙ ap (freeAt ps) (sym (length-map ps shown) ∙ ap length (sym e) ∙ n),
     )
-
--- of fewer places the first is the same, or there is none
-pub first-fewer : (p : ℕ → Bool) (n m : ℕ) → n ≤ m → first p n ≡ min n (first p m)
-first-fewer p n m h = go (ltb (first p m) n) (ltb (first p n) n) refl refl
-  where
-    go : (x y : Bool) → ltb (first p m) n ≡ x → ltb (first p n) n ≡ y → first p n ≡ min n (first p m)
-    go true y e d =
-        let l : first p m < n = ltb-true (first p m) n e in
-        omega (arith, first-is p n (first p m) l (first-holds p m (omega arith)) (first-before p m))
-    go false true e d =
-        let l : first p n < n = ltb-true (first p n) n d in
-        let k : n ≤ first p m = ltb-false (first p m) n e in
-        absurd (false≢true (sym (first-before p m (first p n) (omega arith)) ∙ first-holds p n l))
-    go false false e d =
-        omega (arith, ltb-false (first p m) n e, ltb-false (first p n) n d, first-le p n)

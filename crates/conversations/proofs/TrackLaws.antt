@@ -1,39 +1,24 @@
 -- Laws of tracking in the words of the code's branches.
 -- Assumes nothing.
-use Prim.Native.Nat.{ℕ, _%_, _/_, _^_, _<_, _≤_}
+use Prim.Native.Nat.{ℕ, _<_, _≤_}
 use mathlib.Core.Path.{_≡_, sym, ap, _∙_}
-use mathlib.Core.Bool.{false, not}
 use mathlib.Core.List.{List, []}
 use lib.ListN.{length, getD, set, length-map}
 use native.Mathlib.Omega.{arith}
-use borrow.Author.Tests.{eq-eqb, lt-ltb, le-ltb}
-use lib.Dec.{eqb}
+use borrow.Author.Tests.{lt-ltb, le-ltb}
 use Rattle.table.specs.declared.Room.{Room}
-use Rattle.conversations.specs.declared.Quad.{Quad}
+use Rattle.places.specs.declared.Quad.{Quad}
 use Rattle.conversations.specs.declared.Turn.{Turn}
-use Rattle.conversations.specs.declared.Phase.{Phase}
-use Rattle.conversations.specs.declared.Phase.the-variants as phase
-use Rattle.conversations.specs.declared.Next.{Next}
+use Rattle.flags.specs.declared.Phase.{Phase}
+use Rattle.flags.specs.declared.Phase.the-variants as phase
+use Rattle.flags.specs.declared.Next.{Next}
 use Rattle.conversations.specs.declared.Progress.{Progress}
 use Rattle.conversations.specs.declared.Progress.the-variants as progress
-use Rattle.conversations.specs.Places.{Place, free, placeOf, placesOf}
-use Rattle.conversations.specs.Tracking.{
-  Tracked,
-  trackedAs,
-  holds,
-  heldAs,
-  phaseOf,
-  nextOf,
-  heldAt,
-  freeAt,
-  moved,
-  opened,
-  begun,
-  trackedIn,
-}
-use Rattle.conversations.proofs.ListLaws.{by-test, and-true, map-set}
-use Rattle.conversations.proofs.PlaceLaws.{place-at}
-use Rattle.conversations.proofs.HoldLaws.{holds-is}
+use Rattle.places.specs.Places.{Place, free, placeOf, placesOf, heldAs, phaseOf}
+use Rattle.conversations.specs.Tracking.{Tracked, trackedAs, heldAt, freeAt, moved, opened, begun, trackedIn}
+use Rattle.flags.specs.Flags.{nextOf}
+use Rattle.numbers.proofs.Elements.{map-set}
+use Rattle.places.proofs.PlaceLaws.{place-at}
 
 -- one place is stored
 pub stored : (v : Progress) (ps : List (List ℕ)) (i : ℕ) (x : List ℕ) (p : Place) → placeOf x ≡ p
@@ -41,21 +26,6 @@ pub stored : (v : Progress) (ps : List (List ℕ)) (i : ℕ) (x : List ℕ) (p :
 stored v ps i x p h =
     let k = map-set placeOf ps i x ∙ ap (set (placesOf ps) i) h in
     λ j. record { progress = v; places = k j }
-
--- ---- a place holds the quadruple
-
-module _ (q : Quad) (w : List ℕ) where
-  -- one of its numbers differs
-  pub holds-not : (f : Quad → ℕ) → (f q ≡ f (placeOf w .quad) → ⊥) → false ≡ holds q (placeOf w)
-  holds-not f n = by-test (holds q (placeOf w)) (λ e. absurd (n (ap f (holds-is q (placeOf w) e .1)))) (λ e. sym e)
-
-  -- all three agree
-  pub holds-same : q .ports ≡ getD w 1 0 / 2 ^ 32 → q .source ≡ getD w 3 0 → q .destination ≡ getD w 5 0
-      → not (eqb (getD w 0 0 % 4) 0) ≡ holds q (placeOf w)
-  unfolding holds
-  holds-same p s d =
-      rw (eq-eqb (q .source) (getD w 3 0) s, eq-eqb (q .destination) (getD w 5 0) d, eq-eqb (q .ports) (getD w 1 0 / 2 ^ 32) p)
-      (and-true (not (eqb (getD w 0 0 % 4) 0)))
 
 -- ---- a new conversation
 

@@ -1,6 +1,2 @@
-pub mod Places
 pub mod Tracking
-pub mod Ageing
-pub mod Good
 pub mod Scan
-pub mod Stamps

@@ -5,9 +5,8 @@ use mathlib.Core.Bool.{Bool, cond, _&&_, not}
 use mathlib.Core.List.{List, [], _∷_}
 use lib.ListN.{length}
 use lib.Dec.{ltb, eqb}
-use Rattle.conversations.specs.Places.{Place}
-use Rattle.conversations.specs.Tracking.{sameQuad}
-use Rattle.conversations.specs.declared.Quad.{Quad}
+use Rattle.places.specs.Places.{Place, sameQuad}
+use Rattle.places.specs.declared.Quad.{Quad}
 use Rattle.conversations.specs.declared.scan.Conversation.{Conversation}
 use Rattle.conversations.specs.declared.scan.Found.{Found}
 

@@ -1,84 +1,14 @@
-// One rule's conversations, each in a place: found, moved on, aged, tested. Places are lent as words and changed in place.
-pub mod ageing;
-pub mod good;
-pub mod place;
+// One rule's conversations, each in a place: found, moved on, begun. Places are lent as words and changed in place.
 mod scan;
-mod shape;
-mod stamps;
 pub mod track;
 
-use table::RULES;
-
-// The words of a place, from the lowest bit up, in bits. What has no meaning yet must be zero, or the record is bad.
-// 0: state 2 (0 free, 1 Opening, 2 Running, 3 Closing), kind 1 and socket 1 (no meaning yet), age in ms 60
-// 1: expected number 32 (no meaning yet), both ports 32
-// 2, 3: source address, its high 64 bits (no meaning yet) and its low 64; an IPv4 address stands in the low
-// 4, 5: destination address, likewise
-pub type PlaceWords = [u64; PLACE_WORDS];
-
-// The places of one rule, and those of all rules.
-pub type RulePlaces = [PlaceWords; PLACES];
-
-pub type AllPlaces = [RulePlaces; RULES];
-
-pub const PLACE_WORDS: usize = 6;
-
-pub const PLACES: usize = 8;
-
-// Where each word stands.
-pub const HELD: usize = 0;
-
-pub const PORTS: usize = 1;
-
-pub const SOURCE_HIGH: usize = 2;
-
-pub const SOURCE: usize = 3;
-
-pub const DESTINATION_HIGH: usize = 4;
-
-pub const DESTINATION: usize = 5;
-
-// In word HELD the state stands below the kind, and kind and age count so much.
-pub(crate) const KIND_BIT: u64 = 4;
-
-pub(crate) const AGE_BIT: u64 = 16;
-
-// The weight of a word's upper half.
-pub(crate) const HALF: u64 = 4294967296;
-
-// A conversation: the addresses and both ports, source x 65,536 + destination, as this direction shows them.
-pub struct Quad {
-    pub source: u64,
-    pub destination: u64,
-    pub ports: u32,
-}
-
-// What the four flags count as.
-pub enum FlagKind {
-    Wrong,
-    Open,
-    Carry,
-    End,
-    Reset,
-}
+use flags::FlagKind;
+use places::Quad;
 
 // What tracking looks at in a frame.
 pub struct Turn {
     pub quad: Quad,
     pub kind: FlagKind,
-}
-
-pub enum Phase {
-    Opening,
-    Running,
-    Closing,
-}
-
-// A step of the table: not allowed, the conversation removed, or its next state.
-pub enum Next {
-    No,
-    Removed,
-    To(Phase),
 }
 
 // What tracking says of a frame.

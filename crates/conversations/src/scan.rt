@@ -2,11 +2,21 @@
 ghost use mathlib.Core.Path.{_≡_};
 ghost use mathlib.Core.Bool.{cond};
 ghost use mathlib.Core.List.{map};
-ghost use Rattle.conversations.specs.Places.{placeOf, placesOf, mostPlaces};
+ghost use Rattle.places.specs.Places.{placeOf, placesOf};
+ghost use Rattle.table.specs.Table.{mostPlaces};
 ghost use Rattle.conversations.specs.Tracking.{heldAt, freeAt};
 ghost use Rattle.conversations.specs.Scan.{shown, seenBy, scanOf};
-use crate::place::high32;
-use crate::*;
+use places::BOTH_PORTS;
+use places::DESTINATION;
+use places::HELD;
+use places::KIND_BIT;
+use places::PLACE_WORDS;
+use places::PlaceWords;
+use places::Quad;
+use places::RulePlaces;
+use places::SOURCE;
+use places::place::high32;
+use table::PLACES;
 
 // What the scan looks at in a place, free or held.
 pub struct Conversation {
@@ -31,7 +41,7 @@ fn read_place(w: PlaceWords) -> Conversation
         state: w[HELD] % KIND_BIT,
         source: w[SOURCE],
         destination: w[DESTINATION],
-        ports: high32(w[PORTS]),
+        ports: high32(w[BOTH_PORTS]),
     }
 }
 

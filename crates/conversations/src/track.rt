@@ -1,50 +1,27 @@
 // Tracking: a frame's conversation in the places of the deciding rule.
 ghost use mathlib.Core.Path.{_≡_};
 ghost use Prim.Native.Nat.{_<_, _≤_};
-ghost use Rattle.conversations.specs.Places.{placeOf, placesOf, free, mostPlaces};
-ghost use Rattle.conversations.specs.Tracking.{kindOf, holds, heldAt, freeAt, nextOf, heldAs, moved, opened, begun, trackedIn, trackedAs};
-use crate::place::high32;
-use crate::place::phase_of;
-use crate::place::place_words;
-use crate::place::state;
+ghost use Rattle.places.specs.Places.{placeOf, placesOf, free, heldAs};
+ghost use Rattle.table.specs.Table.{mostPlaces};
+ghost use Rattle.conversations.specs.Tracking.{heldAt, freeAt, moved, opened, begun, trackedIn, trackedAs};
 use crate::scan::find;
-use crate::shape::*;
 use crate::*;
+use flags::FlagKind;
+use flags::Next;
+use flags::Phase;
+use flags::next_of;
+use places::PLACE_WORDS;
+use places::PlaceWords;
+use places::Quad;
+use places::RulePlaces;
+use places::place::phase_of;
+use places::place::place_words;
+use places::place::state;
+use places::shape::tell_places;
+use table::PLACES;
 use table::Room;
 
-pub fn flag_kind(fin: bool, syn: bool, rst: bool, ack: bool) -> FlagKind
-    ensures { λ r. ⌜ r ≡ kindOf fin syn rst ack ⌝ }
-{
-    if syn & !fin & !rst {
-        return FlagKind::Open;
-    }
-    if rst & !syn & !fin {
-        return FlagKind::Reset;
-    }
-    if fin & ack & !syn & !rst {
-        return FlagKind::End;
-    }
-    if ack & !fin & !syn & !rst {
-        return FlagKind::Carry;
-    }
-    FlagKind::Wrong
-}
-
 // ---- finding
-
-// The ports differ most often, so they are compared first.
-pub(crate) fn is_held_by(q: Quad, p: &PlaceWords) -> bool
-    ensures { λ r. ⌜ r ≡ holds q (placeOf (now (p .entry))) ⌝ }
-{
-    if q.ports == high32(p[PORTS]) {
-        if q.source == p[SOURCE] {
-            if q.destination == p[DESTINATION] {
-                return p[HELD] % KIND_BIT != 0;
-            }
-        }
-    }
-    false
-}
 
 // The place that holds the quadruple, or PLACES.
 fn find_quad(q: Quad, ps: &RulePlaces) -> usize
@@ -66,36 +43,6 @@ fn find_free(n: usize, ps: &RulePlaces) -> usize
     };
     let found = find(none, ps);
     if found.free < n { found.free } else { n }
-}
-
-// ---- the table of the paper
-
-fn next_of(f: Phase, k: FlagKind) -> Next
-    ensures { λ r. ⌜ r ≡ nextOf f k ⌝ }
-{
-    match f {
-        Phase::Opening => match k {
-            FlagKind::Open => Next::To(Phase::Opening),
-            FlagKind::Carry => Next::To(Phase::Running),
-            FlagKind::End => Next::To(Phase::Closing),
-            FlagKind::Reset => Next::Removed,
-            FlagKind::Wrong => Next::No,
-        },
-        Phase::Running => match k {
-            FlagKind::Open => Next::No,
-            FlagKind::Carry => Next::To(Phase::Running),
-            FlagKind::End => Next::To(Phase::Closing),
-            FlagKind::Reset => Next::Removed,
-            FlagKind::Wrong => Next::No,
-        },
-        Phase::Closing => match k {
-            FlagKind::Open => Next::No,
-            FlagKind::Carry => Next::To(Phase::Closing),
-            FlagKind::End => Next::To(Phase::Closing),
-            FlagKind::Reset => Next::Removed,
-            FlagKind::Wrong => Next::No,
-        },
-    }
 }
 
 // ---- what a frame does to the places

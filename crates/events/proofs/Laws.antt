@@ -9,9 +9,10 @@ use native.Mathlib.Nat.{le-of-suc-le-suc, not-suc-le-zero}
 use native.Mathlib.Omega.{arith}
 use Rattle.numbers.specs.Lists.{firsts, copies}
 use Rattle.numbers.proofs.Lists.{length-copies}
-use Rattle.layers.specs.Inside.{Inside, IpInside, TransportInside, SomeipInside}
-use Rattle.layers.specs.declared.Ip.{Ip}
-use Rattle.layers.specs.declared.Ip.the-variants as ip
+use Rattle.layers.specs.Inside.{Inside, TransportInside, SomeipInside}
+use Rattle.packets.specs.Inside.{IpInside}
+use Rattle.packets.specs.declared.Ip.{Ip}
+use Rattle.packets.specs.declared.Ip.the-variants as ip
 use Rattle.layers.specs.declared.Transport.{Transport}
 use Rattle.layers.specs.declared.Transport.the-variants as transport
 use Rattle.layers.specs.declared.Someip.{Someip}

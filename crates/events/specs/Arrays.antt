@@ -2,8 +2,8 @@
 -- Assumes nothing.
 use Prim.Native.Nat.{ℕ}
 use mathlib.Core.List.{List, _++_}
-use Rattle.layers.specs.declared.Ip.{Ip}
-use Rattle.layers.specs.declared.Ip.the-variants as ip
+use Rattle.packets.specs.declared.Ip.{Ip}
+use Rattle.packets.specs.declared.Ip.the-variants as ip
 use Rattle.layers.specs.declared.Transport.{Transport}
 use Rattle.layers.specs.declared.Transport.the-variants as transport
 use Rattle.layers.specs.declared.Someip.{Someip}

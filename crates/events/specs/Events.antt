@@ -8,8 +8,8 @@ use mathlib.Core.Bool.{cond}
 use lib.ListN.{length, take, drop}
 use lib.Dec.{eqb}
 use Rattle.numbers.specs.Lists.{copies}
-use Rattle.layers.specs.declared.Ip.{Ip}
-use Rattle.layers.specs.declared.Ip.the-variants as ip
+use Rattle.packets.specs.declared.Ip.{Ip}
+use Rattle.packets.specs.declared.Ip.the-variants as ip
 use Rattle.layers.specs.declared.Transport.{Transport}
 use Rattle.layers.specs.declared.Transport.the-variants as transport
 use Rattle.layers.specs.declared.Someip.{Someip}

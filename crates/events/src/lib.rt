@@ -19,10 +19,10 @@ ghost use Rattle.events.specs.Arrays.{
   someipSpan,
   spanOf,
 };
-use layers::Ip;
 use layers::Layers;
 use layers::Someip;
 use layers::Transport;
+use packets::Ip;
 use table::settings::is_tcp;
 use table::words;
 use table::words::RuleWords;

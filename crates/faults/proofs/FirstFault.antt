@@ -3,16 +3,16 @@
 use Prim.Native.Nat.{ℕ, _+_, _-_, _<_, _≤_}
 use mathlib.Core.Path.{_≡_, sym, ap, _∙_}
 use mathlib.Core.Bool.{Bool, true, false, not, cond}
-use native.Mathlib.Omega.{arith}
 use borrow.Author.Tests.{lt-ltb, le-ltb}
 use Rattle.numbers.specs.Lists.{leading, firstFrom, first}
 use Rattle.numbers.proofs.Lists.{first-here, first-next, first-none}
 use Rattle.numbers.proofs.Leading.{not-all, all-pass}
 use Rattle.table.specs.Table.{mostRules, ruleAt}
-use Rattle.faults.specs.Faults.{ruleTests, freshId, faulty, statesGood, faultOf}
+use Rattle.ranges.specs.Ranges.{ruleTests}
+use Rattle.faults.specs.Faults.{freshId, faulty, statesGood, faultOf}
 use Rattle.table.specs.declared.Table.{Table}
 use Rattle.faults.specs.declared.Fault.the-variants as fault
-use Rattle.faults.proofs.Rules.{rule-length}
+use Rattle.ranges.proofs.Rules.{rule-length}
 
 -- how many tests of the rule at i pass
 abbrev pub passed : Table → ℕ → ℕ

@@ -10,7 +10,8 @@ use Rattle.numbers.specs.Lists.{every, first, allBelow}
 use Rattle.numbers.proofs.Lists.{and-both, every-at, below-at, first-before}
 use Rattle.table.specs.Settings.{Setting, unset, set, of8, of32, ofKind}
 use Rattle.table.specs.Table.{mostRules, mostStates, isAllow, isTcp, trackingFrom, trackingOf, ruleAt, stateAt, marked}
-use Rattle.faults.specs.Faults.{mayTrack, fromTo, knownAction, halfGood, ruleTests, freshId, faulty, marksGood, stateGood, statesGood, faultOf}
+use Rattle.ranges.specs.Ranges.{mayTrack, fromTo, knownAction, halfGood, ruleTests}
+use Rattle.faults.specs.Faults.{freshId, faulty, marksGood, stateGood, statesGood, faultOf}
 use Rattle.table.specs.declared.Rule.{Rule}
 use Rattle.table.specs.declared.Room.{Room}
 use Rattle.table.specs.declared.Table.{Table}

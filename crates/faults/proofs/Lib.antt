@@ -1,4 +1,3 @@
-pub mod Rules
-pub mod Unset
+pub mod Ids
 pub mod FirstFault
 pub mod Good

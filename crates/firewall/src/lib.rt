@@ -129,8 +129,8 @@ fn judge_frame(
     reading: u64,
     space: &mut [u8],
 ) -> Judged
-    requires { ⌜ faultOf (tableIn (now t)) ≡ fault.Good ⌝ }
-    requires { ⌜ recordsGood (tableIn (now t)) (recordsOf (lent (now head) (now counts) (now places))) ≡ true ⌝ }
+    requires table { ⌜ faultOf (tableIn (now t)) ≡ fault.Good ⌝ }
+    requires record { ⌜ recordsGood (tableIn (now t)) (recordsOf (lent (now head) (now counts) (now places))) ≡ true ⌝ }
     ensures { λ r. ⌜
         says (saidJudged r) (after head counts places) (now (space .exit))
         ≡ afterFrame (tableIn (now (t .entry))) (before head counts places) (arrival reading (now (frame .entry))) (now (space .entry))

@@ -1,6 +1,6 @@
 -- Laws of the definitions of specs/: what a caller knows of them without opening them.
 -- Assumes nothing.
-use Prim.Native.Nat.{ℕ, _+_, _-_, _*_, _/_, _%_, _≤_}
+use Prim.Native.Nat.{ℕ, _+_, _*_, _≤_}
 use mathlib.Core.Path.{_≡_, _∙_, ap, refl, sym, subst}
 use mathlib.Core.List.{List}
 use mathlib.Core.Bool.{Bool, true, false, cond, _&&_, _||_, false≢true, true≢false}
@@ -8,20 +8,10 @@ use native.Mathlib.Omega.{arith}
 use lib.ListN.{length}
 use lib.Dec.{ltb}
 use borrow.Author.Tests.{ltb-false, leb-true}
-use Rattle.numbers.specs.Bytes.{byte}
 use Rattle.numbers.proofs.Lists.{cond-both, every-at}
-use Rattle.layers.specs.Link.{linkBytes, taggedBytes, tagged, tagOf, linkOf}
-use Rattle.layers.specs.Ip.{
-  ipv4Bytes,
-  leastWords,
-  headerWords,
-  headerLength,
-  totalLength,
-  ipv4Tests,
-  ipv4Here,
-  packetAt,
-  ipOf,
-}
+use Rattle.packets.specs.Link.{linkBytes, taggedBytes, tagged, tagOf, linkOf}
+use Rattle.packets.specs.Ip.{ipOf}
+use Rattle.packets.proofs.Laws.{ip-inside}
 use Rattle.layers.specs.Transport.{
   tcpBytes,
   leastOffset,
@@ -39,28 +29,18 @@ use Rattle.layers.specs.Transport.{
 }
 use Rattle.layers.specs.Someip.{someipBytes, someipTests, someipHere, messageAt, someipAt, someipOf}
 use Rattle.layers.specs.Layers.{least, most, layersOf, tooShort, tooLong, refusalNumber, shownOf}
-use Rattle.layers.specs.Inside.{
-  TagInside,
-  PacketInside,
-  IpInside,
-  SegmentInside,
-  DatagramInside,
-  TransportInside,
-  MessageInside,
-  SomeipInside,
-  Inside,
-}
+use Rattle.packets.specs.Inside.{TagInside, PacketInside, IpInside}
+use Rattle.layers.specs.Inside.{SegmentInside, DatagramInside, TransportInside, MessageInside, SomeipInside, Inside}
 use Rattle.layers.specs.declared.FrameRefusal.the-variants as refusal
-use Rattle.layers.specs.declared.Link.{Link}
-use Rattle.layers.specs.declared.Packet.{Packet}
-use Rattle.layers.specs.declared.Ip.{Ip}
-use Rattle.layers.specs.declared.Ip.the-variants as ip
+use Rattle.packets.specs.declared.Link.{Link}
+use Rattle.packets.specs.declared.Packet.{Packet}
+use Rattle.packets.specs.declared.Ip.{Ip}
+use Rattle.packets.specs.declared.Ip.the-variants as ip
 use Rattle.layers.specs.declared.Segment.{Segment}
 use Rattle.layers.specs.declared.Datagram.{Datagram}
 use Rattle.layers.specs.declared.Transport.{Transport}
 use Rattle.layers.specs.declared.Transport.the-variants as transport
 use Rattle.layers.specs.declared.Message.{Message}
-use Rattle.layers.specs.declared.Someip.{Someip}
 use Rattle.layers.specs.declared.Someip.the-variants as someip
 use Rattle.layers.specs.declared.Layers.{Layers}
 use Rattle.layers.specs.declared.Shown.{Shown}
@@ -78,28 +58,6 @@ unfolding tooShort
 short-fits s e =
     let h = short-parts (ltb (length s) least) (tagged s) (ltb (length s) taggedBytes) e in
     (ltb-false _ _ (h .0), λ q. ltb-false _ _ (h .1 q))
-
-pub record Ipv4Fits (s : List ℕ) (at : ℕ) : Type 0 where
-  pub rest : at + ipv4Bytes ≤ length s
-  pub header : headerLength s at ≤ totalLength s at
-  pub words : leastWords ≤ headerWords s at
-  pub total : at + totalLength s at ≤ length s
-
-pub ipv4-fits : (s : List ℕ) (ether at : ℕ) → ipv4Here s ether at ≡ true → Ipv4Fits s at
-unfolding ipv4Here ipv4Tests
-ipv4-fits s ether at e =
-    let ts = ipv4Tests s ether at in
-    let h : ipv4Bytes ≤ length s - at = leb-true _ _ (every-at ts 1 e) in
-    let w : leastWords ≤ headerWords s at = leb-true _ _ (every-at ts 3 e) in
-    let l : headerLength s at ≤ totalLength s at = leb-true _ _ (every-at ts 4 e) in
-    let t : totalLength s at ≤ length s - at = leb-true _ _ (every-at ts 5 e) in
-    record { rest = omega arith; header = l; words = w; total = omega arith }
-
--- what packet_at asks
-pub ipv4-room :
-    (s : List ℕ) (ether at : ℕ) → ipv4Here s ether at ≡ true
-    → (at + ipv4Bytes ≤ length s) × (headerLength s at ≤ totalLength s at)
-ipv4-room s ether at e = let f = ipv4-fits s ether at e in (f .rest, f .header)
 
 module _ (s : List ℕ) (protocol at len : ℕ) where
   pub tcp-fits : tcpHere s protocol at len ≡ true → (tcpBytes ≤ len) × ((leastOffset ≤ dataOffset s at) × (4 * dataOffset s at ≤ len))
@@ -124,18 +82,6 @@ link-inside s e =
     cond-both (λ (l : Link). (l .hlen ≤ length s) × TagInside (l .tag)) (tagged s) _ _
     (λ q. (short-fits s e .1 q, omega arith))
     (λ q. (short-fits s e .0, tt))
-
-pub ip-inside : (s : List ℕ) (ether at : ℕ) → IpInside s (ipOf s ether at)
-unfolding ipOf packetAt
-ip-inside s ether at =
-    cond-both (IpInside s) (ipv4Here s ether at) _ _
-    (λ h.
-    let f = ipv4-fits s ether at h in
-    let w = f .words in
-    let l = f .header in
-    let t = f .total in
-    record { words = omega arith; joined = refl; payload = omega arith })
-    (λ h. tt)
 
 at-inside : (s : List ℕ) (protocol at len : ℕ) → at + len ≤ length s → TransportInside s (transportAt s protocol at len)
 unfolding transportAt segmentAt datagramAt

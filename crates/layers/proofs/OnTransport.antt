@@ -28,8 +28,8 @@ use Rattle.layers.specs.Transport.{
   transportAt,
   transportOf,
 }
-use Rattle.layers.specs.declared.Packet.{Packet}
-use Rattle.layers.specs.declared.Ip.the-variants as ip
+use Rattle.packets.specs.declared.Packet.{Packet}
+use Rattle.packets.specs.declared.Ip.the-variants as ip
 use Rattle.layers.specs.declared.Transport.the-variants as transport
 
 module _ (s : List ℕ) (at : ℕ) where

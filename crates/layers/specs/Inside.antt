@@ -1,19 +1,13 @@
 -- What a reader of the layers may count on: every offset and length of a layer that is present lies within the frame.
 -- Assumes nothing.
-use Prim.Native.Nat.{ℕ, _+_, _≤_, _<_}
+use Prim.Native.Nat.{ℕ, _+_, _≤_}
 use mathlib.Core.Path.{_≡_}
 use mathlib.Core.List.{List}
 use lib.ListN.{length}
-use Rattle.layers.specs.Link.{low12}
-use Rattle.layers.specs.Ip.{ipv4Bytes}
 use Rattle.layers.specs.Transport.{tcpBytes, udpBytes}
 use Rattle.layers.specs.Someip.{someipBytes}
 use Rattle.layers.specs.Layers.{most}
-use Rattle.layers.specs.declared.Tag.{Tag}
-use Rattle.layers.specs.declared.Tag.the-variants as tag
-use Rattle.layers.specs.declared.Packet.{Packet}
-use Rattle.layers.specs.declared.Ip.{Ip}
-use Rattle.layers.specs.declared.Ip.the-variants as ip
+use Rattle.packets.specs.Inside.{TagInside, IpInside}
 use Rattle.layers.specs.declared.Segment.{Segment}
 use Rattle.layers.specs.declared.Datagram.{Datagram}
 use Rattle.layers.specs.declared.Transport.{Transport}
@@ -22,22 +16,6 @@ use Rattle.layers.specs.declared.Message.{Message}
 use Rattle.layers.specs.declared.Someip.{Someip}
 use Rattle.layers.specs.declared.Someip.the-variants as someip
 use Rattle.layers.specs.declared.Layers.{Layers}
-
--- a VLAN id has 12 bits
-abbrev pub TagInside : Tag → Type 0
-TagInside tag.Untagged = Unit {0}
-TagInside (tag.Tagged priority vlan) = vlan < low12
-
--- a header of at least 20 bytes, the payload straight behind it
-pub record PacketInside (s : List ℕ) (p : Packet) : Type 0 where
-  pub words : ipv4Bytes ≤ p .hlen
-  pub joined : p .header + p .hlen ≡ p .payload
-  pub payload : p .payload + p .plen ≤ length s
-
--- IP, where it is present
-abbrev pub IpInside : List ℕ → Ip → Type 0
-IpInside s ip.Absent = Unit {0}
-IpInside s (ip.V4 p) = PacketInside s p
 
 -- a TCP header of at least 20 bytes
 pub record SegmentInside (s : List ℕ) (t : Segment) : Type 0 where

@@ -5,8 +5,8 @@ use mathlib.Core.List.{List}
 use mathlib.Core.Bool.{Bool, cond, _&&_, _||_}
 use lib.ListN.{length}
 use lib.Dec.{ltb}
-use Rattle.layers.specs.Link.{taggedBytes, tagged, linkOf}
-use Rattle.layers.specs.Ip.{ipOf}
+use Rattle.packets.specs.Link.{taggedBytes, tagged, linkOf}
+use Rattle.packets.specs.Ip.{ipOf}
 use Rattle.layers.specs.Transport.{transportOf}
 use Rattle.layers.specs.Someip.{someipOf}
 use Rattle.layers.specs.declared.Layers.{Layers}

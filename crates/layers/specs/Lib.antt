@@ -1,5 +1,3 @@
-pub mod Link
-pub mod Ip
 pub mod Transport
 pub mod Someip
 pub mod Layers

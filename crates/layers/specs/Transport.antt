@@ -6,8 +6,8 @@ use mathlib.Core.Bool.{Bool, cond, _&&_}
 use lib.Dec.{leb, eqb}
 use Rattle.numbers.specs.Bytes.{byte, be16}
 use Rattle.numbers.specs.Lists.{every}
-use Rattle.layers.specs.declared.Ip.{Ip}
-use Rattle.layers.specs.declared.Ip.the-variants as ip
+use Rattle.packets.specs.declared.Ip.{Ip}
+use Rattle.packets.specs.declared.Ip.the-variants as ip
 use Rattle.layers.specs.declared.Segment.{Segment}
 use Rattle.layers.specs.declared.Datagram.{Datagram}
 use Rattle.layers.specs.declared.Transport.{Transport}

@@ -3,53 +3,24 @@ ghost use mathlib.Core.Path.{_≡_};
 ghost use mathlib.Core.Bool.{false};
 ghost use Rattle.layers.specs.Layers.{layersOf, tooShort, refusalNumber, shownOf};
 
-mod ip_layer;
-mod link_layer;
 mod someip_layer;
 mod transport_layer;
 
-use crate::ip_layer::read_ip;
-use crate::link_layer::TAGGED_BYTES;
-use crate::link_layer::is_tagged;
-use crate::link_layer::read_link;
 use crate::someip_layer::read_someip;
 use crate::transport_layer::read_transport;
+use packets::Ip;
+use packets::Link;
+use packets::ip_layer::read_ip;
+use packets::link_layer::TAGGED_BYTES;
+use packets::link_layer::is_tagged;
+use packets::link_layer::read_link;
 
 // The bytes of a frame, without its check sequence.
 const LEAST: usize = 14;
 
 const MOST: usize = 1518;
 
-pub enum Tag {
-    Untagged,
-    Tagged { priority: u8, vlan: u16 },
-}
-
-// The header lies at 0, the rest starts at hlen.
-pub struct Link {
-    pub destination: u64,
-    pub source: u64,
-    pub tag: Tag,
-    pub ether: u16,
-    pub hlen: usize,
-}
-
-// Here and below header and payload count from the frame's start; hlen and plen are their lengths.
-pub struct Packet {
-    pub source: u32,
-    pub destination: u32,
-    pub protocol: u8,
-    pub header: usize,
-    pub hlen: usize,
-    pub payload: usize,
-    pub plen: usize,
-}
-
-pub enum Ip {
-    Absent,
-    V4(Packet),
-}
-
+// Header and payload count from the frame's start; hlen and plen are their lengths.
 pub struct Segment {
     pub source: u16,
     pub destination: u16,
@@ -151,13 +122,13 @@ fn is_short(s: &[u8]) -> bool
 }
 
 /// What a frame shows, for any product. Takes the frame's bytes, without their check sequence, and asks nothing of them. Answers a refusal
-/// or the layers, `Absent` for each that the frame lacks; it keeps nothing and changes nothing. Every offset in the answer counts from the
-/// frame's start and lies, with its length, inside the frame (specs/Inside; laws `shows-inside`, `packet-inside` and its like of proofs/Laws).
-/// An IPv4 header's time to live, or 0:
+/// or the layers, `Absent` for each that the frame lacks; it keeps nothing and changes nothing. Link and IP are types of `packets`, so a
+/// product names both crates. Every offset in the answer counts from the frame's start and lies, with its length, inside the frame
+/// (specs/Inside here and in `packets`; laws `shows-inside`, `packet-inside` and its like of proofs/Laws). An IPv4 header's time to live, or 0:
 ///
 ///     let Shown::Shows(shown) = layers::read(frame) else { return 0; };
 ///     let ip = shown.ip;
-///     match ip { Ip::Absent => 0, Ip::V4(packet) => frame[packet.header + 8] }
+///     match ip { packets::Ip::Absent => 0, packets::Ip::V4(packet) => frame[packet.header + 8] }
 pub fn read(frame: &[u8]) -> Shown
     ensures { λ r. ⌜ r ≡ shownOf (now (frame .entry)) ⌝ }
 {

@@ -2,7 +2,7 @@
 ghost use mathlib.Core.Path.{_≡_};
 ghost use Prim.Native.Nat.{_+_, _≤_};
 ghost use lib.ListN.{length};
-ghost use Rattle.layers.specs.Ip.{ipv4Bytes};
+ghost use Rattle.packets.specs.Ip.{ipv4Bytes};
 ghost use Rattle.layers.specs.Transport.{
   tcpBytes,
   udpBytes,
@@ -14,11 +14,12 @@ ghost use Rattle.layers.specs.Transport.{
   transportAt,
   transportOf,
 };
-ghost use Rattle.layers.specs.Inside.{PacketInside, IpInside};
+ghost use Rattle.packets.specs.Inside.{PacketInside, IpInside};
 use crate::*;
 use numbers::count8;
 use numbers::count16;
 use numbers::read16;
+use packets::Packet;
 
 // In the IPv4 header: flags and fragment offset, and the weight of more-fragments, below which the offset lies.
 const FRAGMENT_AT: usize = 6;
@@ -113,7 +114,8 @@ fn segment_at(s: &[u8], at: usize) -> Segment
 }
 
 fn datagram_at(s: &[u8], at: usize, len: usize) -> Datagram
-    requires { ⌜ (udpBytes ≤ len) × (at + len ≤ length (now s)) ⌝ }
+    requires header { ⌜ udpBytes ≤ len ⌝ }
+    requires inside { ⌜ at + len ≤ length (now s) ⌝ }
     ensures { λ r. ⌜ r ≡ datagramAt (now (s .entry)) at len ⌝ }
 {
     Datagram {

@@ -7,9 +7,9 @@ use mathlib.Core.Bool.{Bool, true, false, _||_, or-false, and-true}
 use lib.Dec.{eqb}
 use Rattle.numbers.specs.Lists.{every}
 use Rattle.numbers.proofs.Lists.{and-both, and-true-true}
-use Rattle.layers.specs.declared.Packet.{Packet}
-use Rattle.layers.specs.declared.Ip.{Ip}
-use Rattle.layers.specs.declared.Ip.the-variants as ip
+use Rattle.packets.specs.declared.Packet.{Packet}
+use Rattle.packets.specs.declared.Ip.{Ip}
+use Rattle.packets.specs.declared.Ip.the-variants as ip
 use Rattle.layers.specs.declared.Segment.{Segment}
 use Rattle.layers.specs.declared.Datagram.{Datagram}
 use Rattle.layers.specs.declared.Transport.{Transport}
@@ -34,17 +34,8 @@ use Rattle.table.specs.Settings.{
   sameKind,
 }
 use Rattle.table.proofs.SettingLaws.{unset-agrees}
-use Rattle.matching.specs.Matching.{
-  ipv4Unset,
-  ipv4Agrees,
-  ipv4Matches,
-  transportUnset,
-  portsAgree,
-  transportMatches,
-  someipUnset,
-  messageAgrees,
-  someipMatches,
-}
+use Rattle.table.specs.Marks.{ipv4Unset, transportUnset, someipUnset}
+use Rattle.matching.specs.Matching.{ipv4Agrees, ipv4Matches, portsAgree, transportMatches, messageAgrees, someipMatches}
 
 -- each test of the first list that passes has its partner pass
 abbrev pub Partners : List Bool → List Bool → Type 0

@@ -1,4 +1,1 @@
 pub mod Agreeing
-pub mod Deciders
-pub mod Leading
-pub mod Fitting

@@ -1,16 +1,16 @@
--- Does a layer match, does a rule, and who decides. Document 01, 'Rules and vehicle states' and step 3.
--- s is the frame's bytes, and l the layers that were read from them.
+-- Does a layer match, and does a rule. Document 01, 'Rules and vehicle states'.
+-- s is the frame's bytes.
 -- Assumes nothing.
 use Prim.Native.Nat.{ℕ}
 use mathlib.Core.List.{List, [], _∷_}
-use mathlib.Core.Bool.{Bool, false, cond, _&&_, _||_}
-use lib.Dec.{eqb, ltb}
-use Rattle.numbers.specs.Lists.{every, everyOf, first}
-use Rattle.layers.specs.declared.Tag.{Tag}
-use Rattle.layers.specs.declared.Tag.the-variants as tag
-use Rattle.layers.specs.declared.Link.{Link}
-use Rattle.layers.specs.declared.Ip.{Ip}
-use Rattle.layers.specs.declared.Ip.the-variants as ip
+use mathlib.Core.Bool.{Bool, false, _||_}
+use lib.Dec.{eqb}
+use Rattle.numbers.specs.Lists.{every, everyOf}
+use Rattle.packets.specs.declared.Tag.{Tag}
+use Rattle.packets.specs.declared.Tag.the-variants as tag
+use Rattle.packets.specs.declared.Link.{Link}
+use Rattle.packets.specs.declared.Ip.{Ip}
+use Rattle.packets.specs.declared.Ip.the-variants as ip
 use Rattle.layers.specs.declared.Transport.{Transport}
 use Rattle.layers.specs.declared.Transport.the-variants as transport
 use Rattle.layers.specs.declared.Message.{Message}
@@ -24,7 +24,7 @@ use Rattle.table.specs.declared.Ipv4Settings.{Ipv4Settings}
 use Rattle.table.specs.declared.TransportSettings.{TransportSettings}
 use Rattle.table.specs.declared.SomeipSettings.{SomeipSettings}
 use Rattle.table.specs.declared.Rule.{Rule}
-use Rattle.table.specs.declared.Table.{Table}
+use Rattle.table.specs.Marks.{ipv4Unset, transportUnset, someipUnset}
 use Rattle.table.specs.Settings.{
   of8,
   of16,
@@ -38,7 +38,6 @@ use Rattle.table.specs.Settings.{
   inPrefix,
   sameKind,
 }
-use Rattle.table.specs.Table.{mostRules, ruleAt, active}
 
 -- Link, which is always present. "VLAN settings never agree with an untagged frame"
 abbrev pub tagTests : LinkSettings → Tag → List Bool
@@ -60,9 +59,6 @@ abbrev pub layerMatches : List Bool → Bool → Bool
 layerMatches unsets agree = every unsets || agree
 
 -- IPv4
-abbrev pub ipv4Unset : Ipv4Settings → List Bool
-ipv4Unset r = isUnset (ofPrefix (r .source)) ∷ isUnset (ofPrefix (r .destination)) ∷ isUnset (of8 (r .protocol)) ∷ []
-
 abbrev pub ipv4Agrees : Ipv4Settings → Ip → Bool
 ipv4Agrees r ip.Absent = false
 ipv4Agrees r (ip.V4 p) =
@@ -76,9 +72,6 @@ unfoldable pub ipv4Matches : Ipv4Settings → Ip → Bool
 ipv4Matches r x = layerMatches (ipv4Unset r) (ipv4Agrees r x)
 
 -- Transport
-abbrev pub transportUnset : TransportSettings → List Bool
-transportUnset r = isUnset (ofKind (r .kind)) ∷ isUnset (ofRange (r .source)) ∷ isUnset (ofRange (r .destination)) ∷ []
-
 abbrev pub portsAgree : TransportSettings → Kind → ℕ → ℕ → Bool
 portsAgree r k source destination =
     every
@@ -99,15 +92,6 @@ transportMatches r x = layerMatches (transportUnset r) (transportAgrees r x)
 abbrev pub messagesOf : List ℕ → Someip → List Message
 messagesOf s someip.Absent = []
 messagesOf s (someip.Present m) = m ∷ []
-
-abbrev pub someipUnset : SomeipSettings → List Bool
-someipUnset r =
-    isUnset (of16 (r .service))
-    ∷ isUnset (of16 (r .method))
-    ∷ isUnset (of8 (r .version))
-    ∷ isUnset (of8 (r .kind))
-    ∷ isUnset (of8 (r .code))
-    ∷ []
 
 abbrev pub messageAgrees : SomeipSettings → Message → Bool
 messageAgrees r m =
@@ -137,12 +121,3 @@ layerTests r x =
 
 unfoldable pub ruleMatches : Rule → Seen → Bool
 ruleMatches r x = every (layerTests r x)
-
--- "The first active matching rule decides": its place, or 64, the default's, where none matches
-unfoldable pub decides : Table → ℕ → Seen → ℕ → Bool
-decides t state x i = active t state i && ruleMatches (ruleAt t i) x
-
-unfoldable pub deciderOf : Table → ℕ → Seen → ℕ
-deciderOf t state x =
-    let i = first (decides t state x) (t .rulecount) in
-    cond (ltb i (t .rulecount)) i mostRules

@@ -6,6 +6,7 @@ ghost use Rattle.matching.specs.Matching.{tagTests, linkMatches, ipv4Mat
 ghost use Rattle.table.specs.Words.{ruleIn};
 use crate::agrees::*;
 use layers::*;
+use packets::*;
 use table::settings::*;
 use table::words;
 use table::words::RuleWords;
@@ -112,7 +113,7 @@ pub(crate) fn someip_matches(r: SomeipSettings, s: &[u8], x: Someip) -> bool
 }
 
 // The layers that match, from link upward to the first that does not.
-pub(crate) fn layers_matched(r: &RuleWords, s: &[u8], l: Layers) -> usize
+pub fn layers_matched(r: &RuleWords, s: &[u8], l: Layers) -> usize
     ensures { λ n. ⌜ n ≡ leading (layerTests (ruleIn (now (r .entry))) (seen (now (s .entry)) l)) ⌝ }
 {
     let ip = l.ip;

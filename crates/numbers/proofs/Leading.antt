@@ -6,8 +6,7 @@ use mathlib.Core.List.{List, [], _∷_, _++_}
 use mathlib.Core.Bool.{Bool, true, false, cond, not, false≢true, true≢false}
 use native.Mathlib.Nat.{le-of-suc-le-suc, not-suc-le-zero}
 use native.Mathlib.Omega.{arith}
-use borrow.Author.Tests.{eq-eqb, ne-eqb, ltb-true, ltb-false, not-true, not-false}
-use lib.Dec.{eqb, ltb}
+use borrow.Author.Tests.{not-true, not-false}
 use lib.ListN.{length}
 use Rattle.numbers.specs.Lists.{every, leading}
 
@@ -27,14 +26,6 @@ pub leading-whole : (bs : List Bool) → every bs ≡ true → leading bs ≡ le
 leading-whole [] e = refl
 leading-whole (true ∷ bs) e = ap suc (leading-whole bs e)
 leading-whole (false ∷ bs) e = absurd (false≢true e)
-
--- all pass exactly where as many pass as there are
-pub every-leading : (bs : List Bool) → every bs ≡ eqb (leading bs) (length bs)
-every-leading bs = go (every bs) refl
-  where
-    go : (b : Bool) → every bs ≡ b → every bs ≡ eqb (leading bs) (length bs)
-    go true e = e ∙ sym (eq-eqb (leading bs) (length bs) (leading-whole bs e))
-    go false e = e ∙ sym (ne-eqb (leading bs) (length bs) (λ q. absurd (omega (arith, leading-fewer bs e))))
 
 -- and so a count tells
 pub not-all : (bs : List Bool) {n : ℕ} → n ≡ leading bs → n < length bs → false ≡ every bs
@@ -78,14 +69,6 @@ first-passes : (ks ls : List Bool) → length ks ≤ leading ks → leading (ks 
 first-passes [] ls h = omega arith
 first-passes (true ∷ ks) ls h = omega (arith, first-passes ks ls (le-of-suc-le-suc h))
 first-passes (false ∷ ks) ls h = absurd (not-suc-le-zero h)
-
-pub leading-append :
-    (ks ls : List Bool) → leading (ks ++ ls) ≡ cond (ltb (leading ks) (length ks)) (leading ks) (length ks + leading ls)
-leading-append ks ls = go (ltb (leading ks) (length ks)) refl
-  where
-    go : (b : Bool) → ltb (leading ks) (length ks) ≡ b → leading (ks ++ ls) ≡ cond b (leading ks) (length ks + leading ls)
-    go true e = first-fails ks ls (ltb-true (leading ks) (length ks) e)
-    go false e = first-passes ks ls (ltb-false (leading ks) (length ks) e)
 
 -- ---- block by block: of a list l, all k tests before the block `ks` have passed
 

@@ -1,7 +1,7 @@
 -- Document 01, 'Worked set': "Table T, default block, all active".
 -- Assumes nothing.
 use Prim.Native.Nat.{ℕ}
-use mathlib.Core.List.{List, [], _∷_}
+use mathlib.Core.List.{_∷_}
 use Rattle.numbers.specs.Lists.{copies}
 use Rattle.table.specs.declared.Action.the-variants as action
 use Rattle.table.specs.declared.Kind.the-variants as kind

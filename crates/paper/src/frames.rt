@@ -140,8 +140,9 @@ fn put(f: Frame, bytes: &mut [u8; MOST])
 
 // A frame's bytes, with zeros after them, and how many they are, which is within the buffer.
 pub fn frame(f: Frame, bytes: &mut [u8; MOST]) -> usize
-    ensures { λ r. ⌜ (r ≡ length (frameBytes f)) × (now (bytes .exit) ≡ laid (frameBytes f)) ⌝ }
-    ensures { λ r. ⌜ r ≤ length (now (bytes .exit)) ⌝ }
+    ensures count { λ r. ⌜ r ≡ length (frameBytes f) ⌝ }
+    ensures bytes { λ r. ⌜ now (bytes .exit) ≡ laid (frameBytes f) ⌝ }
+    ensures inside { λ r. ⌜ r ≤ length (now (bytes .exit)) ⌝ }
 {
     put(f, bytes);
     length(f)

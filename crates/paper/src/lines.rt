@@ -131,7 +131,8 @@ const M5: [Row; 6] = [
 ];
 
 fn m5(k: usize) -> Line
-    requires { ⌜ (4 ≤ k) × (k < 10) ⌝ }
+    requires from { ⌜ 4 ≤ k ⌝ }
+    requires below { ⌜ k < 10 ⌝ }
     ensures { λ r. ⌜ r ≡ getD lines k noLine ⌝ }
 {
     line_of(M5[k - 4])
@@ -145,7 +146,8 @@ const M6: [Row; 3] = [
 ];
 
 fn m6(k: usize) -> Line
-    requires { ⌜ (10 ≤ k) × (k < 13) ⌝ }
+    requires from { ⌜ 10 ≤ k ⌝ }
+    requires below { ⌜ k < 13 ⌝ }
     ensures { λ r. ⌜ r ≡ getD lines k noLine ⌝ }
 {
     line_of(M6[k - 10])
@@ -161,7 +163,8 @@ const M7: [Row; 5] = [
 ];
 
 fn m7(k: usize) -> Line
-    requires { ⌜ (13 ≤ k) × (k < 18) ⌝ }
+    requires from { ⌜ 13 ≤ k ⌝ }
+    requires below { ⌜ k < 18 ⌝ }
     ensures { λ r. ⌜ r ≡ getD lines k noLine ⌝ }
 {
     line_of(M7[k - 13])
@@ -175,7 +178,8 @@ const M8: [Row; 3] = [
 ];
 
 fn m8(k: usize) -> Line
-    requires { ⌜ (18 ≤ k) × (k < 21) ⌝ }
+    requires from { ⌜ 18 ≤ k ⌝ }
+    requires below { ⌜ k < 21 ⌝ }
     ensures { λ r. ⌜ r ≡ getD lines k noLine ⌝ }
 {
     line_of(M8[k - 18])
@@ -188,7 +192,8 @@ const M9: [Row; 2] = [
 ];
 
 fn m9(k: usize) -> Line
-    requires { ⌜ (21 ≤ k) × (k < 23) ⌝ }
+    requires from { ⌜ 21 ≤ k ⌝ }
+    requires below { ⌜ k < 23 ⌝ }
     ensures { λ r. ⌜ r ≡ getD lines k noLine ⌝ }
 {
     line_of(M9[k - 21])
@@ -203,7 +208,8 @@ const M10: [Row; 4] = [
 ];
 
 fn m10(k: usize) -> Line
-    requires { ⌜ (23 ≤ k) × (k < 27) ⌝ }
+    requires from { ⌜ 23 ≤ k ⌝ }
+    requires below { ⌜ k < 27 ⌝ }
     ensures { λ r. ⌜ r ≡ getD lines k noLine ⌝ }
 {
     line_of(M10[k - 23])
@@ -218,7 +224,8 @@ const M11: [Row; 4] = [
 ];
 
 fn m11(k: usize) -> Line
-    requires { ⌜ (27 ≤ k) × (k < 31) ⌝ }
+    requires from { ⌜ 27 ≤ k ⌝ }
+    requires below { ⌜ k < 31 ⌝ }
     ensures { λ r. ⌜ r ≡ getD lines k noLine ⌝ }
 {
     line_of(M11[k - 27])

@@ -6,7 +6,8 @@ use mathlib.Core.List.{List, [], _∷_}
 use lib.ListN.{length, getD, set, take}
 use native.Mathlib.Nat.{le-of-suc-le-suc, not-suc-le-zero}
 use Rattle.numbers.specs.Lists.{each, firsts}
-use Rattle.records.specs.Records.{RuleRecord, ruleOf, rulesOf}
+use Rattle.verdicts.specs.Record.{RuleRecord, ruleOf}
+use Rattle.records.specs.Records.{ruleRecords}
 
 -- ---- rules made anew
 
@@ -27,14 +28,14 @@ module _ {A B : Type 0} (f : A → B → B) (d : A) (h : (y : B) → f d y ≡ y
 
 -- the words of a rule are stored
 pub rule-set : (cs : List (List ℕ)) (ps : List (List (List ℕ))) (i : ℕ) (c : List ℕ) (p : List (List ℕ)) → i < length ps
-    → rulesOf (set cs i c) (set ps i p) ≡ set (rulesOf cs ps) i (ruleOf c p)
+    → ruleRecords (set cs i c) (set ps i p) ≡ set (ruleRecords cs ps) i (ruleOf c p)
 rule-set [] ps i c p h = refl
 rule-set (x ∷ cs) [] i c p h = absurd (not-suc-le-zero h)
 rule-set (x ∷ cs) (y ∷ ps) zero c p h = refl
 rule-set (x ∷ cs) (y ∷ ps) (suc i) c p h = ap (λ (k : List RuleRecord). ruleOf x y ∷ k) (rule-set cs ps i c p (le-of-suc-le-suc h))
 
 -- the counts alone are stored
-pub count-set : (cs : List (List ℕ)) (ps : List (List (List ℕ))) (i : ℕ) (c : List ℕ) → rulesOf (set cs i c) ps ≡ set (rulesOf cs ps) i (ruleOf c (getD ps i []))
+pub count-set : (cs : List (List ℕ)) (ps : List (List (List ℕ))) (i : ℕ) (c : List ℕ) → ruleRecords (set cs i c) ps ≡ set (ruleRecords cs ps) i (ruleOf c (getD ps i []))
 count-set [] ps i c = refl
 count-set (x ∷ cs) [] zero c = refl
 count-set (x ∷ cs) [] (suc i) c = ap (λ (k : List RuleRecord). ruleOf x [] ∷ k) (count-set cs [] i c)

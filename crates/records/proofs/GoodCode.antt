@@ -1,75 +1,36 @@
 -- Laws of good records in the words of the code's branches.
 -- Assumes nothing.
 use Prim.Native.Nat.{ℕ, _<_, _≤_, min}
-use mathlib.Core.Path.{_≡_, refl, sym, ap, ap₂, _∙_}
-use mathlib.Core.Bool.{Bool, true, false, cond, _&&_, _||_}
+use mathlib.Core.Path.{_≡_, refl, sym, ap, _∙_}
+use mathlib.Core.Bool.{Bool, true, _&&_, _||_}
 use mathlib.Core.List.{List, []}
 use lib.ListN.{length, getD, take, length-take, length-map, List·getD-eq-default}
-use lib.Dec.{ltb, leb, eqb}
+use lib.Dec.{ltb, eqb}
 use native.Mathlib.Omega.{arith}
-use borrow.Author.Tests.{lt-ltb, le-ltb, le-leb, eqb-true}
-use Rattle.numbers.specs.Lists.{every, allBelow}
+use borrow.Author.Tests.{lt-ltb, le-ltb}
+use Rattle.numbers.specs.Lists.{allBelow}
 use Rattle.numbers.proofs.Lists.{and-both, and-true-true, below-all, below-at}
 use Rattle.table.specs.declared.Rule.{Rule}
 use Rattle.table.specs.declared.Table.{Table}
-use Rattle.table.specs.declared.Bucket.{Bucket}
 use Rattle.table.specs.declared.Bucket.the-variants as bucket
-use Rattle.table.specs.declared.Tracking.{Tracking}
-use Rattle.table.specs.Table.{noRule, ruleAt, bucketOf, trackingOf}
+use Rattle.table.specs.Table.{noRule}
 use Rattle.table.specs.Table as table
 use Rattle.table.specs.Words.{ruleIn, tableIn}
 use Rattle.table.proofs.Rows.{rule-at}
-use Rattle.conversations.specs.Good.{placesIn, limitIn, placesTests, isEmpty, emptyFrom}
-use Rattle.conversations.proofs.ListLaws.{by-less, both-ways, and-true, and-assoc, or-first, or-second, or-rest}
-use Rattle.records.specs.Records.{RuleRecord, noRecord, ruleOf, rulesOf, recordsOf, lent}
-use Rattle.records.specs.Good.{hasBucket, levelGood, recordTests, recordGood, ruleOfRecord, levelFrom, slotsGood, recordsGood}
+use Rattle.places.specs.Good.{isEmpty, emptyFrom}
+use Rattle.numbers.proofs.Tests.{by-less, both-ways, and-true, and-assoc, or-first, or-second, or-rest}
+use Rattle.verdicts.specs.Record.{noRecord, ruleOf}
+use Rattle.records.specs.Records.{ruleRecords, recordsOf, lent}
+use Rattle.verdicts.specs.Good.{levelGood, recordGood}
+use Rattle.records.specs.Good.{ruleOfRecord, levelFrom, slotsGood, recordsGood}
+use Rattle.verdicts.proofs.GoodCode.{level-unset, none-is}
 use Rattle.records.proofs.GoodLaws.{rule-within, rule-beyond}
 use Rattle.records.proofs.WordLaws.{rules-at}
-
--- ---- the level
-
-pub level-unset : (l : ℕ) → eqb l 0 ≡ levelGood bucket.Unset l
-level-unset l =
-    both-ways (eqb l 0) (leb l 4294967000 && eqb l 0)
-    (λ e. let z = eqb-true l 0 e in and-true-true (le-leb l 4294967000 (omega arith)) e)
-    (λ h. and-both (leb l 4294967000) (eqb l 0) h .1)
-
--- ---- a rule
-
-pub good-is : (r : Rule) (x : RuleRecord)
-    → recordGood r x
-    ≡ (levelGood (bucketOf r) (x .level) && every (placesTests (placesIn (trackingOf r)) (limitIn (trackingOf r)) (x .places)))
-unfolding recordGood recordTests
-good-is r x = sym (and-assoc (leb (x .level) 4294967000) (hasBucket (bucketOf r) || eqb (x .level) 0) _)
-
-module _ (r : Rule) (x : RuleRecord) (b : Bucket) (v : Bool) (has : b ≡ bucketOf r) (told : v ≡ levelGood b (x .level)) where
-  level-is : v ≡ levelGood (bucketOf r) (x .level)
-  level-is = told ∙ ap (λ (b : Bucket). levelGood b (x .level)) has
-
-  pub rule-no : v ≡ false → false ≡ recordGood r x
-  rule-no f =
-      sym
-      (good-is r x
-      ∙ ap (λ (a : Bool). a && every (placesTests (placesIn (trackingOf r)) (limitIn (trackingOf r)) (x .places))) (sym level-is ∙ f))
-
-  pub rule-yes : (k : Tracking) (a : Bool) → v ≡ true → k ≡ trackingOf r → a ≡ every (placesTests (placesIn k) (limitIn k) (x .places)) → a ≡ recordGood r x
-  rule-yes k a f e h =
-      h
-      ∙ ap (λ (k : Tracking). every (placesTests (placesIn k) (limitIn k) (x .places))) e
-      ∙ sym
-      (good-is r x
-      ∙ ap (λ (a : Bool). a && every (placesTests (placesIn (trackingOf r)) (limitIn (trackingOf r)) (x .places))) (sym level-is ∙ f))
-
--- no rule stands there
-pub none-is : (x : RuleRecord) (a b : Bool) → a ≡ levelGood bucket.Unset (x .level)
-    → b ≡ every (placesTests 0 0 (x .places)) → (a && b) ≡ recordGood noRule x
-unfolding bucketOf trackingOf
-none-is x a b e f = rw (e, f) (sym (good-is noRule x))
 
 -- ---- all rules
 
 abbrev pub goodAt : Table → List (List ℕ) → List (List (List ℕ)) → ℕ → Bool
-goodAt t cs ps i = recordGood (ruleOfRecord t i) (getD (rulesOf cs ps) i noRecord)
+goodAt t cs ps i = recordGood (ruleOfRecord t i) (getD (ruleRecords cs ps) i noRecord)
 
 -- the row at i, which has a rule
 pub rule-good : (t cs : List (List ℕ)) (ps : List (List (List ℕ))) (i : ℕ) (b : Bool) → i < tableIn t .rulecount → i < 64 → i < length cs
@@ -85,7 +46,7 @@ slot-is : (t : Table) (cs : List (List ℕ)) (ps : List (List (List ℕ))) (k : 
 slot-is t cs ps k g h =
     none-is (ruleOf (getD cs k []) (getD ps k [])) _ _ (level-unset (getD (getD cs k []) 0 0)) refl
     ∙ ap (recordGood noRule) (sym (rules-at cs ps k h))
-    ∙ ap (λ (r : Rule). recordGood r (getD (rulesOf cs ps) k noRecord)) (sym (rule-beyond t k g))
+    ∙ ap (λ (r : Rule). recordGood r (getD (ruleRecords cs ps) k noRecord)) (sym (rule-beyond t k g))
 
 -- the rules are good, so all are good exactly when the slots behind them are
 module _ (t : Table) (cs : List (List ℕ)) (ps : List (List (List ℕ))) (n : ℕ) (is : n ≡ min (t .rulecount) 64) (long : length cs ≡ 65)
@@ -140,4 +101,4 @@ all-is t h cs ps a b c l m n e f g =
         ∙ none-is (ruleOf (getD cs 64 []) []) c true g refl
         ∙ ap (λ (p : List (List ℕ)). recordGood noRule (ruleOf (getD cs 64 []) p)) (sym (List·getD-eq-default ps [] (omega arith)))
         ∙ ap (recordGood noRule) (sym (rules-at cs ps 64 (omega arith)))
-        ∙ ap (λ (r : Rule). recordGood r (getD (rulesOf cs ps) 64 noRecord)) (sym (List·getD-eq-default (table.rulesOf t) noRule (omega (arith, length-take (t .rulecount) (t .rules)))))
+        ∙ ap (λ (r : Rule). recordGood r (getD (ruleRecords cs ps) 64 noRecord)) (sym (List·getD-eq-default (table.rulesOf t) noRule (omega (arith, length-take (t .rulecount) (t .rules)))))

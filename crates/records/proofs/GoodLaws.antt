@@ -4,45 +4,41 @@ use native.Mathlib.Nat.{zero-sub}
 use native.Mathlib.Omega.{arith}
 use mathlib.Core.Path.{_≡_, refl, sym, ap, subst, _∙_}
 use mathlib.Core.Bool.{true, false≢true}
-use mathlib.Core.List.{List, [], _∷_, _++_}
+use mathlib.Core.List.{[], _∷_, _++_}
 use lib.ListN.{length, getD, length-set, length-take, List·getD-eq-default}
 use lib.Seq.{getD-set-same, getD-set-other, getD-take, set-out, ext-getD}
 use lib.Dec.{ltb, eqb}
 use borrow.Author.Tests.{lt-ltb, le-ltb, ltb-true, eqb-true, eqb-false}
-use Rattle.numbers.specs.Lists.{allBelow, each, copies}
-use Rattle.numbers.proofs.Lists.{and-both, and-true-true, below-at, below-all, length-each}
+use Rattle.numbers.specs.Lists.{allBelow, each, copies, All, Sized}
+use Rattle.numbers.proofs.Lists.{and-both, and-true-true, below-at, below-all, length-each, each-at}
 use Rattle.table.specs.declared.Rule.{Rule}
 use Rattle.table.specs.declared.Table.{Table}
 use Rattle.table.specs.declared.Action.{Action}
 use Rattle.table.specs.declared.Tracking.{Tracking}
 use Rattle.faults.specs.declared.Fault.the-variants as fault
-use Rattle.table.specs.Table.{noRule, ruleAt, stateAt, rulesOf, bucketOf, trackingOf}
+use Rattle.table.specs.Table.{noRule, ruleAt, stateAt, rulesOf, bucketOf, trackingOf, mostPlaces}
 use Rattle.faults.specs.Faults.{freshId, faultOf}
 use Rattle.table.specs.declared.Room.{Room}
 use Rattle.faults.proofs.Good.{good-count, good-rule, good-states, good-tracking}
 use Rattle.table.specs.declared.Bucket.{Bucket}
 use Rattle.table.specs.declared.Bucket.the-variants as bucket
 use Rattle.table.specs.declared.Tracking.the-variants as tracking
-use Rattle.conversations.specs.Places.{free, isFree, mostPlaces, Fits, All, Sized}
-use Rattle.conversations.specs.Ageing.{agedPlaces}
-use Rattle.conversations.specs.Good.{young, clean, limitIn, isIpv4}
+use Rattle.places.specs.Places.{free, isFree, Fits}
+use Rattle.places.specs.Ageing.{agedPlaces}
+use Rattle.places.specs.Good.{young, clean, limitIn, isIpv4}
 use Rattle.conversations.specs.declared.Turn.{Turn}
-use Rattle.conversations.proofs.ListLaws.{by-test, by-less, or-second}
-use Rattle.conversations.proofs.HoldLaws.{free-holds}
-use Rattle.conversations.proofs.PlaceLaws.{free-fits}
-use Rattle.conversations.proofs.PlacesLaws.{at, LimitGood}
-use Rattle.records.specs.Records.{RuleRecord, Records, noRecord, recordAt, default, ShapedRecords}
-use Rattle.records.specs.Rule.{drained, aged, reacted, Reacted}
-use Rattle.records.specs.Good.{
-  hasBucket,
-  recordTests,
-  recordGood,
-  ruleOfRecord,
-  recordGoodAt,
-  recordsGood,
-}
-use Rattle.records.specs.Step.{freshRule, freshOf, switchedTo, ticked, defaulted, reactedAt, reaction, acted}
-use Rattle.records.proofs.RuleLaws.{
+use Rattle.numbers.proofs.Tests.{by-test, by-less, or-second}
+use Rattle.places.proofs.HoldLaws.{free-holds}
+use Rattle.places.proofs.PlaceLaws.{free-fits}
+use Rattle.places.proofs.PlacesLaws.{at}
+use Rattle.conversations.proofs.KeptLaws.{LimitGood}
+use Rattle.verdicts.specs.Record.{RuleRecord, noRecord}
+use Rattle.records.specs.Records.{Records, recordAt, default, ShapedRecords}
+use Rattle.verdicts.specs.Rule.{drained, aged, reacted, Reacted, defaulted}
+use Rattle.verdicts.specs.Good.{hasBucket, recordTests, recordGood}
+use Rattle.records.specs.Good.{ruleOfRecord, recordGoodAt, recordsGood}
+use Rattle.records.specs.Step.{freshRule, freshOf, switchedTo, ticked, reactedAt, reaction, acted}
+use Rattle.verdicts.proofs.RuleLaws.{
   good-out,
   aged-zero,
   aged-good,
@@ -74,15 +70,6 @@ pub rule-beyond : (t : Table) (i : ℕ) → t .rulecount ≤ i → ruleOfRecord 
 rule-beyond t i h = List·getD-eq-default (rulesOf t) noRule (omega (arith, length-take (t .rulecount) (t .rules)))
 
 -- ---- the record at a place, through a step
-
--- where nothing is made anew of a missing partner, and nothing of a missing element
-each-at :
-    {A B : Type 0} (f : A → B → B) (d : A) (e : B) → ((y : B) → f d y ≡ y) → ((x : A) → f x e ≡ e)
-    → (k : List A) (l : List B) (i : ℕ) → getD (each f k l) i e ≡ f (getD k i d) (getD l i e)
-each-at f d e a b [] l i = sym (a (getD l i e))
-each-at f d e a b (x ∷ k) [] i = sym (b (getD (x ∷ k) i d))
-each-at f d e a b (x ∷ k) (y ∷ l) zero = refl
-each-at f d e a b (x ∷ k) (y ∷ l) (suc i) = each-at f d e a b k l i
 
 pub aged-no-rule : (e : ℕ) (x : RuleRecord) → aged e noRule x ≡ x
 unfolding aged bucketOf trackingOf

@@ -1,4 +1,3 @@
-pub mod RuleLaws
 pub mod GoodLaws
 pub mod WordLaws
 pub mod CodeLaws

@@ -5,21 +5,24 @@ use mathlib.Core.Path.{_≡_, refl, sym, ap, ap₂, subst, _∙_}
 use mathlib.Core.List.{List, [], _∷_, map}
 use lib.ListN.{length, getD, take, length-map, length-take, List·getD-eq-default}
 use lib.Seq.{getD-take}
-use Rattle.conversations.specs.Places.{free, placeOf, placeWords, Fits, All, ShapedPlace, ShapedPlaces}
-use Rattle.conversations.proofs.ListLaws.{by-less, nil-of, row-back, All-at, All-map}
-use Rattle.conversations.proofs.PlaceLaws.{places-back, places-same, places-fit}
-use Rattle.records.specs.Records.{RuleRecord, Records, noRecord, Lent, ruleOf, rulesOf, recordsOf, countRow, placeRows, wordsOf, Shaped, ShapedRecords}
+use Rattle.places.specs.Places.{free, placeOf, placeWords, Fits, ShapedPlace, ShapedPlaces}
+use Rattle.numbers.specs.Lists.{All}
+use Rattle.numbers.proofs.Tests.{by-less}
+use Rattle.numbers.proofs.Elements.{nil-of, row-back, All-at, All-map}
+use Rattle.places.proofs.PlaceLaws.{places-back, places-same, places-fit}
+use Rattle.verdicts.specs.Record.{RuleRecord, noRecord, ruleOf, countRow, placeRows}
+use Rattle.records.specs.Records.{Records, Lent, ruleRecords, recordsOf, wordsOf, Shaped, ShapedRecords}
 
 -- ---- from words and back
 
-counts-back : (cs : List (List ℕ)) (ps : List (List (List ℕ))) → All (λ c. length c ≡ 3) cs → map countRow (rulesOf cs ps) ≡ cs
+counts-back : (cs : List (List ℕ)) (ps : List (List (List ℕ))) → All (λ c. length c ≡ 3) cs → map countRow (ruleRecords cs ps) ≡ cs
 counts-back [] ps a = refl
 counts-back (c ∷ cs) [] a = ap₂ _∷_ (row-back 3 c (a .0)) (counts-back cs [] (a .1))
 counts-back (c ∷ cs) (p ∷ ps) a = ap₂ _∷_ (row-back 3 c (a .0)) (counts-back cs ps (a .1))
 
 rows-back :
     (n : ℕ) (cs : List (List ℕ)) (ps : List (List (List ℕ))) → length ps ≡ n → n ≤ length cs → All ShapedPlaces ps
-    → map placeRows (take n (rulesOf cs ps)) ≡ ps
+    → map placeRows (take n (ruleRecords cs ps)) ≡ ps
 rows-back zero cs ps h m a = sym (nil-of ps h)
 rows-back (suc n) [] ps h m a = absurd (omega arith)
 rows-back (suc n) (c ∷ cs) [] h m a = absurd (omega arith)
@@ -48,10 +51,10 @@ bare-same x h = λ i. record { level = x .level; passed = x .passed; blocked = x
 rules-same :
     (n : ℕ) (xs : List RuleRecord) → ((i : ℕ) → i < n → All Fits (getD xs i noRecord .places))
     → ((i : ℕ) → n ≤ i → length (getD xs i noRecord .places) ≡ 0)
-    → rulesOf (map countRow xs) (map placeRows (take n xs)) ≡ xs
+    → ruleRecords (map countRow xs) (map placeRows (take n xs)) ≡ xs
 rules-same n [] f h = none n
   where
-    none : (n : ℕ) → rulesOf [] (map placeRows (take n [])) ≡ []
+    none : (n : ℕ) → ruleRecords [] (map placeRows (take n [])) ≡ []
     none zero = refl
     none (suc n) = refl
 rules-same zero (x ∷ xs) f h =
@@ -71,7 +74,7 @@ records-back s h = λ i. record { last = s .last; state = s .state; rules = rule
 
 -- ---- the shapes
 
-rules-length : (cs : List (List ℕ)) (ps : List (List (List ℕ))) → length (rulesOf cs ps) ≡ length cs
+rules-length : (cs : List (List ℕ)) (ps : List (List (List ℕ))) → length (ruleRecords cs ps) ≡ length cs
 rules-length [] ps = refl
 rules-length (c ∷ cs) [] = ap suc (rules-length cs [])
 rules-length (c ∷ cs) (p ∷ ps) = ap suc (rules-length cs ps)
@@ -79,7 +82,7 @@ rules-length (c ∷ cs) (p ∷ ps) = ap suc (rules-length cs ps)
 -- the record at i is that of the rows at i
 pub rules-at :
     (cs : List (List ℕ)) (ps : List (List (List ℕ))) (i : ℕ) → i < length cs
-    → getD (rulesOf cs ps) i noRecord ≡ ruleOf (getD cs i []) (getD ps i [])
+    → getD (ruleRecords cs ps) i noRecord ≡ ruleOf (getD cs i []) (getD ps i [])
 rules-at [] ps i h = absurd (omega arith)
 rules-at (c ∷ cs) [] zero h = refl
 rules-at (c ∷ cs) [] (suc i) h = rules-at cs [] i (omega arith)
@@ -98,7 +101,7 @@ records-shaped w h = record {
   none = places-at 64 (omega arith) ∙ ap length (List·getD-eq-default (w .places) [] (omega (arith, h .places .0)));
 }
   where
-    places-at : (i : ℕ) → i < 65 → length (getD (rulesOf (w .counts) (w .places)) i noRecord .places) ≡ length (getD (w .places) i [])
+    places-at : (i : ℕ) → i < 65 → length (getD (ruleRecords (w .counts) (w .places)) i noRecord .places) ≡ length (getD (w .places) i [])
     places-at i m =
         ap (λ (x : RuleRecord). length (x .places)) (rules-at (w .counts) (w .places) i (omega (arith, h .counts .0)))
         ∙ length-map (getD (w .places) i []) placeOf
@@ -112,7 +115,7 @@ words-shaped s h = record {
     length-map (take 64 (s .rules)) placeRows ∙ few,
     All-map placeRows ShapedPlaces noRecord (take 64 (s .rules))
         (λ i m. (
-          eight i (omega (arith, few)),
+          many i (omega (arith, few)),
           All-map placeWords ShapedPlace free (getD (take 64 (s .rules)) i noRecord .places) (λ j k. refl),
         )),
   );
@@ -121,8 +124,8 @@ words-shaped s h = record {
     few : length (take 64 (s .rules)) ≡ 64
     few = omega (arith, length-take 64 (s .rules), h .rules)
 
-    eight : (i : ℕ) → i < 64 → length (map placeWords (getD (take 64 (s .rules)) i noRecord .places)) ≡ 8
-    eight i m =
+    many : (i : ℕ) → i < 64 → length (map placeWords (getD (take 64 (s .rules)) i noRecord .places)) ≡ 8
+    many i m =
         length-map (getD (take 64 (s .rules)) i noRecord .places) placeWords
         ∙ ap (λ (x : RuleRecord). length (x .places)) (getD-take 64 (s .rules) i noRecord m)
         ∙ h .places i m .0

@@ -2,39 +2,18 @@
 -- Assumes nothing.
 use Prim.Native.Nat.{ℕ, _≤_}
 use mathlib.Core.Path.{_≡_}
-use mathlib.Core.Bool.{Bool, true, false, _&&_, _||_}
-use mathlib.Core.List.{List, [], _∷_}
+use mathlib.Core.Bool.{Bool, true, _&&_, _||_}
+use mathlib.Core.List.{List, []}
 use lib.ListN.{getD}
-use lib.Dec.{ltb, leb, eqb}
-use Rattle.numbers.specs.Lists.{every, allBelow}
+use lib.Dec.{ltb, eqb}
+use Rattle.numbers.specs.Lists.{allBelow}
 use Rattle.table.specs.declared.Rule.{Rule}
 use Rattle.table.specs.declared.Table.{Table}
-use Rattle.table.specs.declared.Bucket.{Bucket}
-use Rattle.table.specs.declared.Bucket.the-variants as bucket
-use Rattle.table.specs.Table.{noRule, rulesOf, bucketOf, trackingOf}
-use Rattle.conversations.specs.Good.{placesIn, limitIn, placesTests, emptyFrom}
-use Rattle.table.specs.Table.{mostRules}
-use Rattle.records.specs.Records.{RuleRecord, noRecord, Records, recordAt, countRows, levelWord}
-
--- the rule has a bucket
-abbrev pub hasBucket : Bucket → Bool
-hasBucket bucket.Unset = false
-hasBucket (bucket.Set b) = true
-
--- not "a level exceeds 4,294,967,000 or is non-zero without a bucket"
-abbrev pub levelGood : Bucket → ℕ → Bool
-levelGood b l = leb l 4294967000 && (hasBucket b || eqb l 0)
-
--- The tests of one rule's record, a line for each clause of 'A record is bad if'
-unfoldable pub recordTests : Rule → RuleRecord → List Bool
-recordTests r x =
-    leb (x .level) 4294967000
-    ∷ (hasBucket (bucketOf r) || eqb (x .level) 0)
-    ∷ placesTests (placesIn (trackingOf r)) (limitIn (trackingOf r)) (x .places)
-
--- all of them pass
-unfoldable pub recordGood : Rule → RuleRecord → Bool
-recordGood r x = every (recordTests r x)
+use Rattle.table.specs.Table.{noRule, rulesOf, mostRules}
+use Rattle.places.specs.Good.{emptyFrom}
+use Rattle.verdicts.specs.Record.{RuleRecord, noRecord, levelWord}
+use Rattle.verdicts.specs.Good.{recordGood}
+use Rattle.records.specs.Records.{Records, recordAt, countRows}
 
 -- the rule of a record: none at the default's place, nor beyond the rule count
 abbrev pub ruleOfRecord : Table → ℕ → Rule

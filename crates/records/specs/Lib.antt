@@ -1,4 +1,3 @@
 pub mod Records
-pub mod Rule
-pub mod Good
 pub mod Step
+pub mod Good

@@ -6,27 +6,18 @@ use mathlib.Core.List.{List, [], _∷_, map}
 use lib.ListN.{length, getD, take}
 use denote.Ref.{RefT, now}
 use denote.Triple.Both.{Both}
-use Rattle.table.specs.Table.{mostRules}
-use Rattle.conversations.specs.Places.{Place, mostPlaces, placesOf, placesWords, Fits, Sized, ShapedPlaces}
+use Rattle.table.specs.Table.{mostRules, mostPlaces}
+use Rattle.places.specs.Places.{Fits, ShapedPlaces}
+use Rattle.numbers.specs.Lists.{Sized}
+use Rattle.verdicts.specs.Record.{countSize, RuleRecord, noRecord, ruleOf, countRow, placeRows}
 
 -- how many rows of counts there are: the last is the default's
 abbrev pub countRows : ℕ
 countRows = mostRules + 1
 
--- how many words a row of counts has
-abbrev pub countSize : ℕ
-countSize = 3
-
 -- how many words stand at the head
 abbrev pub headSize : ℕ
 headSize = 2
-
--- "per rule a bucket level, the conversations held, and counts of passed and blocked frames"
-pub record RuleRecord : Type 0 where
-  pub level : ℕ
-  pub passed : ℕ
-  pub blocked : ℕ
-  pub places : List Place
 
 -- "The clock reading of the last judged frame; the active vehicle state; per rule ..; the same two counts for the default":
 -- 64 rules and, as the 65th, the default, which has neither bucket nor places
@@ -39,31 +30,18 @@ pub record Records : Type 0 where
 abbrev pub default : ℕ
 default = mostRules
 
--- the record where there is none
-abbrev pub noRecord : RuleRecord
-noRecord = record { level = 0; passed = 0; blocked = 0; places = [] }
-
 -- the record of the rule at i, or of the default
 abbrev pub recordAt : Records → ℕ → RuleRecord
 recordAt s i = getD (s .rules) i noRecord
 
 -- ---- the words
 
--- where each word stands: in the head, and in a row of counts
+-- where each word stands in the head
 abbrev pub lastWord : ℕ
 lastWord = 0
 
 abbrev pub activeWord : ℕ
 activeWord = 1
-
-abbrev pub levelWord : ℕ
-levelWord = 0
-
-abbrev pub passedWord : ℕ
-passedWord = 1
-
-abbrev pub blockedWord : ℕ
-blockedWord = 2
 
 -- the words of the records, as they are lent to a call
 pub record Lent : Type 0 where
@@ -86,29 +64,17 @@ before head counts places = lent (now (head .entry)) (now (counts .entry)) (now 
 abbrev pub after : AtCall (List ℕ) → AtCall (List (List ℕ)) → AtCall (List (List (List ℕ))) → Lent
 after head counts places = lent (now (head .exit)) (now (counts .exit)) (now (places .exit))
 
--- level, passed, blocked; and the places
-abbrev pub ruleOf : List ℕ → List (List ℕ) → RuleRecord
-ruleOf c ps = record { level = getD c levelWord 0; passed = getD c passedWord 0; blocked = getD c blockedWord 0; places = placesOf ps }
-
 -- a row of counts and a row of places for each rule; the default's row of counts has no partner
-abbrev pub rulesOf : List (List ℕ) → List (List (List ℕ)) → List RuleRecord
-rulesOf [] ps = []
-rulesOf (c ∷ cs) [] = ruleOf c [] ∷ rulesOf cs []
-rulesOf (c ∷ cs) (p ∷ ps) = ruleOf c p ∷ rulesOf cs ps
+abbrev pub ruleRecords : List (List ℕ) → List (List (List ℕ)) → List RuleRecord
+ruleRecords [] ps = []
+ruleRecords (c ∷ cs) [] = ruleOf c [] ∷ ruleRecords cs []
+ruleRecords (c ∷ cs) (p ∷ ps) = ruleOf c p ∷ ruleRecords cs ps
 
 -- last reading, active state
 unfoldable pub recordsOf : Lent → Records
-recordsOf w = record { last = getD (w .head) lastWord 0; state = getD (w .head) activeWord 0; rules = rulesOf (w .counts) (w .places) }
+recordsOf w = record { last = getD (w .head) lastWord 0; state = getD (w .head) activeWord 0; rules = ruleRecords (w .counts) (w .places) }
 
 -- ---- and back
-
--- level, passed, blocked
-abbrev pub countRow : RuleRecord → List ℕ
-countRow x = x .level ∷ x .passed ∷ x .blocked ∷ []
-
--- the places of one rule
-abbrev pub placeRows : RuleRecord → List (List ℕ)
-placeRows x = placesWords (x .places)
 
 -- the words of the records: the default has no row of places
 unfoldable pub wordsOf : Records → Lent

@@ -6,15 +6,14 @@ use mathlib.Core.List.{[], _∷_, _++_}
 use lib.ListN.{set}
 use lib.Dec.{ltb}
 use Rattle.numbers.specs.Lists.{each, copies}
-use Rattle.table.specs.declared.Action.{Action}
 use Rattle.table.specs.declared.Table.{Table}
-use Rattle.table.specs.Table.{ruleAt, stateAt, rulesOf, trackingOf, isAllow}
-use Rattle.conversations.specs.Places.{free, mostPlaces}
-use Rattle.conversations.specs.Good.{placesIn}
+use Rattle.table.specs.Table.{ruleAt, stateAt, rulesOf, trackingOf, mostRules, mostStates, mostPlaces}
+use Rattle.places.specs.Places.{free}
+use Rattle.places.specs.Good.{placesIn}
 use Rattle.conversations.specs.declared.Turn.{Turn}
-use Rattle.table.specs.Table.{mostRules, mostStates}
-use Rattle.records.specs.Records.{RuleRecord, noRecord, Records, default, recordAt}
-use Rattle.records.specs.Rule.{aged, reacted, Reacted, settled, allowedByDefault, blockedByDefault}
+use Rattle.verdicts.specs.Record.{RuleRecord, noRecord}
+use Rattle.records.specs.Records.{Records, default, recordAt}
+use Rattle.verdicts.specs.Rule.{aged, reacted, Reacted, defaulted}
 
 -- "A fresh record takes a table and a start reading: state 0, all else empty or zero"
 abbrev pub freshRule : RuleRecord
@@ -36,14 +35,6 @@ ticked t reading s = record {
   state = s .state;
   rules = each (aged (reading - s .last)) (rulesOf t) (s .rules);
 }
-
--- "No match: verdict 1 or 6 by the default", whose level and places stay as they are
-abbrev pub defaultVerdict : Action → ℕ
-defaultVerdict a = cond (isAllow a) allowedByDefault blockedByDefault
-
--- steps 4 and 5 of the default
-abbrev pub defaulted : Action → RuleRecord → Reacted
-defaulted a x = settled x (defaultVerdict a) (x .level) (x .places)
 
 -- steps 3 to 5 of the decider at place d: a rule, or the default
 unfoldable pub reactedAt : Table → ℕ → Turn → ℕ → RuleRecord → Reacted

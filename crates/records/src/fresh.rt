@@ -4,9 +4,10 @@ ghost use lib.ListN.{set};
 ghost use Rattle.records.specs.Records.{activeWord, recordsOf, after};
 ghost use Rattle.records.specs.Step.{freshOf};
 use crate::*;
-use conversations::PLACE_WORDS;
-use conversations::PLACES;
+use places::PLACE_WORDS;
+use table::PLACES;
 use table::RULES;
+use verdicts::COUNT_WORDS;
 
 pub fn fresh(reading: u64, head: &mut Head, counts: &mut Counts, places: &mut Places)
     ensures { λ r. ⌜ recordsOf (after head counts places) ≡ freshOf reading ⌝ }

@@ -3,47 +3,19 @@ ghost use mathlib.Core.Path.{_≡_};
 ghost use Prim.Native.Nat.{_≤_, min};
 ghost use Rattle.numbers.specs.Lists.{allBelow};
 ghost use Rattle.table.specs.Table.{mostRules};
-ghost use Rattle.table.specs.Words.{ruleIn, tableIn};
-ghost use Rattle.records.specs.Records.{ruleOf, rulesOf, recordsOf, before};
-ghost use Rattle.records.specs.Good.{levelGood, recordGood, levelFrom, slotsGood, rulesGood, recordsGood};
+ghost use Rattle.table.specs.Words.{tableIn};
+ghost use Rattle.records.specs.Records.{ruleRecords, recordsOf, before};
+ghost use Rattle.records.specs.Good.{levelFrom, slotsGood, rulesGood, recordsGood};
 use crate::shape::*;
 use crate::*;
-use conversations::RulePlaces;
-use conversations::good::good_beyond;
-use conversations::good::good_empty;
-use conversations::good::good_room;
+use places::good::good_beyond;
 use table::Bucket;
 use table::RULES;
-use table::Tracking;
 use table::words;
-use table::words::RuleWords;
 use table::words::TableWords;
-use table::words::bucket;
-use table::words::tracking;
-
-fn good_level(b: Bucket, level: u32) -> bool
-    ensures { λ r. ⌜ r ≡ levelGood b level ⌝ }
-{
-    match b {
-        Bucket::Unset => level == 0,
-        Bucket::Set(_) => level <= LEVEL_MOST,
-    }
-}
-
-fn good_rule(r: &RuleWords, c: &CountWords, ps: &RulePlaces) -> bool
-    ensures { λ x. ⌜ x ≡ recordGood (ruleIn (now (r .entry))) (ruleOf (now (c .entry)) (now (ps .entry))) ⌝ }
-{
-    let b = bucket(r);
-    let k = tracking(r);
-    if good_level(b, c[LEVEL]) {
-        match k {
-            Tracking::Unset => good_empty(ps),
-            Tracking::Set(m) => good_room(m, ps),
-        }
-    } else {
-        false
-    }
-}
+use verdicts::LEVEL;
+use verdicts::good::good_level;
+use verdicts::good::good_rule;
 
 // No slot from one on has a level: it has no rule, and so no bucket.
 fn no_levels(from: usize, counts: &Counts) -> bool
@@ -78,7 +50,7 @@ fn slots(t: &TableWords) -> usize
 }
 
 fn good_rules(t: &TableWords, counts: &Counts, places: &Places) -> bool
-    ensures { λ r. ⌜ r ≡ rulesGood (tableIn (now (t .entry))) (rulesOf (now (counts .entry)) (now (places .entry))) ⌝ }
+    ensures { λ r. ⌜ r ≡ rulesGood (tableIn (now (t .entry))) (ruleRecords (now (counts .entry)) (now (places .entry))) ⌝ }
 {
     tell_rows(*counts, *places);
     words::tell_table(*t);

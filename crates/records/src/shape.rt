@@ -2,12 +2,8 @@
 ghost use mathlib.Core.Path.{_≡_};
 ghost use lib.ListN.{length};
 ghost use Rattle.table.specs.Table.{mostRules};
-ghost use Rattle.records.specs.Records.{countRows, countSize, headSize, Shaped, lent};
+ghost use Rattle.records.specs.Records.{countRows, headSize, Shaped, lent};
 use crate::*;
-
-pub(crate) fn tell_counts(w: CountWords)
-    ensures { λ r. ⌜ length w ≡ countSize ⌝ }
-{}
 
 pub(crate) fn tell_head(w: Head)
     ensures { λ r. ⌜ length w ≡ headSize ⌝ }

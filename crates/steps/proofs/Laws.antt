@@ -1,18 +1,18 @@
 -- What the parts of a step make together; that good records stay good; and the words of the records after it.
 -- Assumes nothing.
-use Prim.Native.Nat.{ℕ, zero, suc, _+_, _*_, _%_, _^_, _<_, _≤_}
+use Prim.Native.Nat.{ℕ, zero, suc, _+_, _*_, _<_, _≤_}
 use mathlib.Core.Path.{_≡_, refl, sym, ap, _∙_}
 use mathlib.Core.Bool.{Bool, true, false, _||_, true≢false}
-use mathlib.Core.List.{List, [], _++_}
+use mathlib.Core.List.{List, []}
 use native.Mathlib.Omega.{arith}
 use borrow.Author.Tests.{lt-ltb, le-ltb, ltb-true, ltb-false, eq-eqb, ne-eqb, eqb-false}
-use lib.ListN.{length, getD, drop}
+use lib.ListN.{length, getD}
 use lib.Dec.{ltb, eqb}
 use Rattle.numbers.specs.Lists.{every, first}
-use Rattle.numbers.proofs.Lists.{cond-both, and-true-true, first-before}
-use Rattle.layers.specs.declared.Ip.{Ip}
-use Rattle.layers.specs.declared.Ip.the-variants as ip
-use Rattle.layers.specs.declared.Packet.{Packet}
+use Rattle.numbers.proofs.Lists.{cond-both, first-before}
+use Rattle.packets.specs.declared.Ip.{Ip}
+use Rattle.packets.specs.declared.Ip.the-variants as ip
+use Rattle.packets.specs.declared.Packet.{Packet}
 use Rattle.layers.specs.declared.Segment.{Segment}
 use Rattle.layers.specs.declared.Transport.{Transport}
 use Rattle.layers.specs.declared.Transport.the-variants as transport
@@ -27,21 +27,23 @@ use Rattle.table.specs.declared.Rule.{Rule}
 use Rattle.table.specs.declared.Tracking.{Tracking}
 use Rattle.table.specs.declared.Tracking.the-variants as tracking
 use Rattle.table.specs.Table.{ruleAt, trackingOf}
-use Rattle.faults.specs.Faults.{ruleTests, freshId, faultOf}
+use Rattle.ranges.specs.Ranges.{ruleTests}
+use Rattle.faults.specs.Faults.{freshId, faultOf}
 use Rattle.faults.proofs.Good.{good-rule, good-states, good-tracking}
-use Rattle.matching.specs.Matching.{deciderOf}
-use Rattle.matching.specs.Best.{scoreOf, greatest, bestOf}
-use Rattle.matching.specs.declared.Best.{Best}
-use Rattle.matching.proofs.Deciders.{decider-is}
-use Rattle.conversations.specs.declared.FlagKind.{FlagKind}
+use Rattle.deciding.specs.Decider.{deciderOf}
+use Rattle.deciding.specs.Best.{scoreOf, greatest, bestOf}
+use Rattle.deciding.specs.declared.Best.{Best}
+use Rattle.deciding.proofs.Deciders.{decider-is}
+use Rattle.flags.specs.declared.FlagKind.{FlagKind}
 use Rattle.conversations.specs.declared.Turn.{Turn}
-use Rattle.conversations.specs.declared.Quad.{Quad}
-use Rattle.conversations.specs.Places.{ipv4Quad}
+use Rattle.places.specs.declared.Quad.{Quad}
+use Rattle.places.specs.Places.{ipv4Quad}
 use Rattle.records.specs.Records.{Lent, Records, recordsOf, wordsOf, Shaped, ShapedRecords}
-use Rattle.conversations.specs.Tracking.{kindOf}
-use Rattle.records.specs.Rule.{overRate, wrongStep, noPlaceFree, blockedByDefault}
+use Rattle.flags.specs.Flags.{kindOf}
+use Rattle.verdicts.specs.Rule.{overRate, wrongStep, noPlaceFree, blockedByDefault}
 use Rattle.records.specs.Step.{ticked, reaction, acted}
-use Rattle.conversations.specs.Good.{placesIn, isIpv4}
+use Rattle.places.specs.Good.{placesIn, isIpv4}
+use Rattle.places.proofs.PlaceLaws.{quad-ipv4}
 use Rattle.records.specs.Good.{recordsGood}
 use Rattle.records.proofs.GoodLaws.{Decider, good-state, ticked-good, acted-good, ticked-shaped, acted-shaped}
 use Rattle.records.proofs.WordLaws.{words-back}
@@ -51,7 +53,7 @@ use Rattle.events.specs.declared.Event.the-variants as event
 use Rattle.steps.specs.declared.Answer.{Answer}
 use Rattle.steps.specs.declared.Report.{Report}
 use Rattle.steps.specs.declared.Report.the-variants as report
-use Rattle.steps.specs.Steps.{turnIn, turnOf, idAt, eventFor, bestEvent, eventOf, outcomeOf, Ready, stepped, steppedAs}
+use Rattle.steps.specs.Steps.{turnIn, turnOf, idAt, eventFor, bestEvent, eventOf, outcomeOf, stepped, steppedAs}
 
 -- ---- who decides
 
@@ -85,7 +87,7 @@ turn-in-plain ip.Absent y = refl
 turn-in-plain (ip.V4 p) transport.Absent = refl
 turn-in-plain (ip.V4 p) (transport.Udp u) = refl
 turn-in-plain (ip.V4 p) (transport.Tcp t) =
-    and-true-true (lt-ltb (p .source % 2 ^ 32) (2 ^ 32) (omega arith)) (lt-ltb (p .destination % 2 ^ 32) (2 ^ 32) (omega arith))
+    quad-ipv4 (p .source) (p .destination) (t .source * 65536 + t .destination)
 
 pub turn-plain : (x : Seen) → isIpv4 (turnOf x .quad) ≡ true
 turn-plain x = turn-in-plain (x .layers .ip) (x .layers .transport)
@@ -187,13 +189,13 @@ module _ (v : ℕ) where
 
 -- ---- frames that are shown
 
-or-first : (a b : Bool) → (a || b) ≡ false → a ≡ false
-or-first false b e = refl
-or-first true b e = e
+neither-first : (a b : Bool) → (a || b) ≡ false → a ≡ false
+neither-first false b e = refl
+neither-first true b e = e
 
 pub shown-long : (s : List ℕ) (l : Layers) → shownOf s ≡ shown.Shows l → 14 ≤ length s
 unfolding tooShort
-shown-long s l e = ltb-false (length s) 14 (or-first (ltb (length s) 14) _ (shows-is s l e .0))
+shown-long s l e = ltb-false (length s) 14 (neither-first (ltb (length s) 14) _ (shows-is s l e .0))
 
 -- ---- good records
 

@@ -6,8 +6,8 @@ use mathlib.Core.List.{List, []}
 use mathlib.Core.Bool.{true, cond}
 use lib.ListN.{length}
 use lib.Dec.{ltb, eqb}
-use Rattle.layers.specs.declared.Ip.{Ip}
-use Rattle.layers.specs.declared.Ip.the-variants as ip
+use Rattle.packets.specs.declared.Ip.{Ip}
+use Rattle.packets.specs.declared.Ip.the-variants as ip
 use Rattle.layers.specs.declared.Transport.{Transport}
 use Rattle.layers.specs.declared.Transport.the-variants as transport
 use Rattle.layers.specs.declared.Shown.the-variants as shown
@@ -18,14 +18,14 @@ use Rattle.table.specs.declared.Table.{Table}
 use Rattle.faults.specs.declared.Fault.the-variants as fault
 use Rattle.table.specs.Table.{ruleAt}
 use Rattle.faults.specs.Faults.{faultOf}
-use Rattle.matching.specs.Matching.{deciderOf}
-use Rattle.matching.specs.Best.{bestOf}
+use Rattle.deciding.specs.Decider.{deciderOf}
+use Rattle.deciding.specs.Best.{bestOf}
 use Rattle.conversations.specs.declared.Turn.{Turn}
-use Rattle.conversations.specs.declared.FlagKind.the-variants as kind
+use Rattle.flags.specs.declared.FlagKind.the-variants as kind
 use Rattle.records.specs.Records.{Lent, Records, default, recordsOf, wordsOf}
-use Rattle.conversations.specs.Places.{ipv4Quad}
-use Rattle.conversations.specs.Tracking.{kindOf}
-use Rattle.records.specs.Rule.{overRate, wrongStep, noPlaceFree, blockedByDefault}
+use Rattle.places.specs.Places.{ipv4Quad}
+use Rattle.flags.specs.Flags.{kindOf}
+use Rattle.verdicts.specs.Rule.{overRate, wrongStep, noPlaceFree, blockedByDefault}
 use Rattle.records.specs.Step.{ticked, reaction, acted}
 use Rattle.records.specs.Good.{recordsGood}
 use Rattle.events.specs.Events.{eventBytes, mismatchOf, written, eventRoom}

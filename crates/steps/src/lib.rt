@@ -7,35 +7,24 @@ ghost use Rattle.layers.specs.Layers.{least};
 ghost use Rattle.layers.specs.Seen.{seen};
 ghost use Rattle.table.specs.Table.{mostRules};
 ghost use Rattle.table.specs.Words.{tableIn};
-ghost use Rattle.matching.specs.Best.{bestOf};
+ghost use Rattle.deciding.specs.Best.{bestOf};
 ghost use Rattle.records.specs.Records.{recordsOf, lent, before, after};
 ghost use Rattle.events.specs.Events.{eventRoom, Wrote};
-ghost use Rattle.steps.specs.Steps.{
-  noTurn,
-  turnIn,
-  idAt,
-  eventFor,
-  bestEvent,
-  eventOf,
-  outcomeOf,
-  Ready,
-  stepped,
-  steppedAs,
-};
-use conversations::FlagKind;
-use conversations::Quad;
+ghost use Rattle.steps.specs.Steps.{noTurn, turnIn, idAt, eventFor, bestEvent, eventOf, outcomeOf, Ready, stepped, steppedAs};
 use conversations::Turn;
-use conversations::place::ipv4_quad;
-use conversations::track::flag_kind;
+use deciding::Best;
+use deciding::decide;
 use events::Event;
 use events::mismatch;
 use events::write;
-use layers::Ip;
+use flags::FlagKind;
+use flags::flag_kind;
 use layers::Layers;
 use layers::Transport;
-use matching::Best;
-use matching::deciding::decide;
 use numbers::wide32;
+use packets::Ip;
+use places::Quad;
+use places::place::ipv4_quad;
 use records::ACTIVE;
 use records::Counts;
 use records::DEFAULT;
@@ -44,10 +33,10 @@ use records::Places;
 use records::act::act;
 use records::shape::shape;
 use records::time::tick;
-use records::verdict::Verdict;
 use table::words::TableWords;
 use table::words::id;
 use table::words::tell_table;
+use verdicts::verdict::Verdict;
 
 // "The answer is verdict, the deciding rule's id (65,535 for the default) and event length".
 pub struct Answer {

@@ -20,15 +20,15 @@ use Rattle.faults.specs.declared.Fault.{Fault}
 use Rattle.faults.specs.declared.Fault.the-variants as fault
 use Rattle.faults.specs.Faults.{faultOf}
 use Rattle.faults.proofs.Good.{good-count}
-use Rattle.matching.specs.Matching.{decides, deciderOf}
+use Rattle.deciding.specs.Decider.{decides, deciderOf}
 use Rattle.records.specs.Records.{Records, Lent, recordsOf, wordsOf, Shaped, ShapedRecords}
 use Rattle.records.specs.Good.{recordsGood}
 use Rattle.records.specs.Step.{freshOf, switchedTo, ticked, reaction, acted}
-use Rattle.records.proofs.GoodLaws.{Decider, ticked-good, ticked-shaped, acted-good, acted-shaped}
+use Rattle.records.proofs.GoodLaws.{ticked-good, ticked-shaped, acted-good, acted-shaped}
 use Rattle.records.proofs.WordLaws.{records-back, records-shaped, words-shaped}
 use Rattle.events.specs.Events.{written, eventRoom}
 use Rattle.steps.specs.Steps.{Arrival, arrival, turnOf, idAt, eventOf, Outcome, outcomeOf}
-use Rattle.steps.proofs.Laws.{turn-plain}
+use Rattle.steps.proofs.Laws.{decider-rule, turn-plain}
 use Rattle.firewall.specs.Firewall.{
   refused,
   done,
@@ -57,14 +57,6 @@ use Rattle.theorems.specs.Run.{Told, Good, Judges}
 pub good-words : (t : Table) (s : Records) → ShapedRecords s → recordsGood t s ≡ true → Good t (wordsOf s)
 good-words t s h g = record { shaped = words-shaped s h; good = ap (recordsGood t) (records-back s h) ∙ g }
 
--- the decider is a rule of the table, or the default
-pub decider-is : (t : Table) (state : ℕ) (x : Seen) → Decider t (deciderOf t state x)
-unfolding deciderOf
-decider-is t state x =
-    cond-both (Decider t) (ltb (first (decides t state x) (t .rulecount)) (t .rulecount)) _ _
-    (λ e h. ltb-true _ (t .rulecount) e)
-    (λ e h. absurd (omega arith))
-
 pub decider-most : (t : Table) (state : ℕ) (x : Seen) → faultOf t ≡ fault.Good → deciderOf t state x < 65
 unfolding deciderOf
 decider-most t state x e =
@@ -91,7 +83,7 @@ module _ (t : Table) (s : Records) (a : Arrival) (l : Layers) where
   pub outcome-good : faultOf t ≡ fault.Good → recordsGood t s ≡ true → recordsGood t (outcome t s a l .records) ≡ true
   unfolding outcomeOf
   outcome-good e h =
-      acted-good t _ _ (ticked t (a .reading) s) (turn-plain (seen (a .bytes) l)) e (decider-is t (s .state) (seen (a .bytes) l)) (ticked-good t (a .reading) s h)
+      acted-good t _ _ (ticked t (a .reading) s) (turn-plain (seen (a .bytes) l)) e (decider-rule t (s .state) (seen (a .bytes) l)) (ticked-good t (a .reading) s h)
 
 module _ (t : Table) (s : Records) (a : Arrival) (l : Layers) where
   pub outcome-reach : outcome t s a l ≡ reach t (s .state) (seen (a .bytes) l) (ticked t (a .reading) s)

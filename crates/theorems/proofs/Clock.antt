@@ -9,10 +9,11 @@ use Rattle.layers.specs.Seen.{seen}
 use Rattle.layers.specs.declared.Layers.{Layers}
 use Rattle.table.specs.declared.Table.{Table}
 use Rattle.table.specs.Table.{rulesOf}
-use Rattle.matching.specs.Matching.{deciderOf}
+use Rattle.deciding.specs.Decider.{deciderOf}
 use Rattle.conversations.specs.declared.Turn.{Turn}
-use Rattle.records.specs.Records.{RuleRecord, Records, Lent, recordsOf, wordsOf, recordAt, Shaped, ShapedRecords}
-use Rattle.records.specs.Rule.{aged}
+use Rattle.verdicts.specs.Record.{RuleRecord}
+use Rattle.records.specs.Records.{Records, Lent, recordsOf, wordsOf, recordAt, Shaped, ShapedRecords}
+use Rattle.verdicts.specs.Rule.{aged}
 use Rattle.records.specs.Good.{recordsGood}
 use Rattle.records.specs.Step.{switchedTo, ticked, acted}
 use Rattle.records.proofs.GoodLaws.{at-plain, switch-shaped}
@@ -22,29 +23,8 @@ use Rattle.steps.specs.Steps.{Arrival, arrival, turnOf, idAt, eventOf, Outcome,
 use Rattle.firewall.specs.Firewall.{answered, After, AfterCall, switchOf, judgeOf}
 use Rattle.theorems.specs.Run.{Item, arrives, switches, go, Told, tell}
 use Rattle.theorems.specs.Statements.{isAnswer}
-use Rattle.theorems.specs.Clock.{
-  ButLast,
-  SameButLast,
-  ClockBack,
-  Plain,
-  ClockFree,
-  AlikeCall,
-  AlikeRun,
-  ElapsedOnly,
-  later,
-  ClockReset,
-}
-use Rattle.theorems.proofs.Calls.{
-  outcome,
-  reach,
-  outcome-last,
-  outcome-back,
-  outcome-shaped,
-  answer,
-  judge-two,
-  judge-by,
-  switch-two,
-}
+use Rattle.theorems.specs.Clock.{ButLast, SameButLast, ClockBack, Plain, ClockFree, AlikeCall, AlikeRun, ElapsedOnly, later, ClockReset}
+use Rattle.theorems.proofs.Calls.{outcome, reach, outcome-last, outcome-back, outcome-shaped, answer, judge-two, judge-by, switch-two}
 use Rattle.theorems.proofs.Kept.{go-shaped}
 
 -- ---- the same elapsed time

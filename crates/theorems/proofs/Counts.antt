@@ -13,13 +13,14 @@ use Rattle.table.specs.declared.Rule.{Rule}
 use Rattle.faults.specs.declared.Fault.the-variants as fault
 use Rattle.table.specs.Table.{rulesOf}
 use Rattle.faults.specs.Faults.{faultOf}
-use Rattle.matching.specs.Matching.{deciderOf}
+use Rattle.deciding.specs.Decider.{deciderOf}
 use Rattle.conversations.specs.declared.Turn.{Turn}
-use Rattle.records.specs.Records.{RuleRecord, noRecord, Records, Lent, recordsOf, wordsOf, recordAt}
-use Rattle.records.specs.Rule.{aged, counted, passes}
+use Rattle.verdicts.specs.Record.{RuleRecord, noRecord}
+use Rattle.records.specs.Records.{Records, Lent, recordsOf, wordsOf, recordAt}
+use Rattle.verdicts.specs.Rule.{aged, counted, passes}
 use Rattle.records.specs.Good.{ruleOfRecord}
 use Rattle.records.specs.Step.{freshOf, switchedTo, ticked, reaction, acted}
-use Rattle.records.proofs.RuleLaws.{CountedBy, counted-sum, aged-count}
+use Rattle.verdicts.proofs.RuleLaws.{CountedBy, counted-sum, aged-count}
 use Rattle.records.proofs.GoodLaws.{ticked-at, ticked-length, acted-own, acted-by, at-count, fresh-shaped, switch-shaped}
 use Rattle.records.proofs.WordLaws.{records-back, records-shaped}
 use Rattle.steps.specs.Steps.{Arrival, turnOf, outcomeOf}

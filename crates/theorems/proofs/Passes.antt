@@ -10,7 +10,6 @@ use borrow.Author.Tests.{lt-ltb, ltb-true}
 use Rattle.numbers.specs.Lists.{first}
 use Rattle.numbers.proofs.Lists.{cond-both, and-both, and-true-true, first-holds, first-is}
 use Rattle.layers.specs.Seen.{Seen, seen}
-use Rattle.layers.specs.declared.Layers.{Layers}
 use Rattle.table.specs.declared.Action.{Action}
 use Rattle.table.specs.declared.Rule.{Rule}
 use Rattle.table.specs.declared.Table.{Table}
@@ -21,20 +20,36 @@ use Rattle.table.specs.declared.Tracking.the-variants as tracking
 use Rattle.table.specs.Table.{ruleAt, stateAt, isAllow, bucketOf, trackingOf}
 use Rattle.faults.specs.Faults.{faultOf}
 use Rattle.faults.proofs.Good.{good-count}
-use Rattle.matching.specs.Matching.{ruleMatches, decides, deciderOf}
-use Rattle.matching.proofs.Deciders.{decider-is, decider-default, decider-small}
-use Rattle.conversations.specs.declared.Quad.{Quad}
-use Rattle.conversations.specs.declared.FlagKind.{FlagKind}
-use Rattle.conversations.specs.declared.FlagKind.the-variants as kind
-use Rattle.conversations.specs.declared.Next.{Next}
-use Rattle.conversations.specs.declared.Next.the-variants as next
+use Rattle.matching.specs.Matching.{ruleMatches}
+use Rattle.deciding.specs.Decider.{decides, deciderOf}
+use Rattle.deciding.proofs.Deciders.{decider-is, decider-default, decider-small}
+use Rattle.places.specs.declared.Quad.{Quad}
+use Rattle.flags.specs.declared.FlagKind.{FlagKind}
+use Rattle.flags.specs.declared.FlagKind.the-variants as kind
+use Rattle.flags.specs.declared.Next.{Next}
+use Rattle.flags.specs.declared.Next.the-variants as next
 use Rattle.conversations.specs.declared.Turn.{Turn}
-use Rattle.conversations.specs.Places.{Place, free}
-use Rattle.records.specs.Records.{RuleRecord, Records, recordsOf, recordAt, default}
-use Rattle.conversations.specs.Tracking.{freeAt, heldAt, nextOf, phaseOf, Tracked, moved, begun, trackedIn, tracked}
-use Rattle.records.specs.Rule.{allowed, allowedByDefault, blockedByDefault, blockedByRule, overRate, raised, over, decided, reacted, verdictOf, asTracked}
-use Rattle.records.specs.Step.{ticked, defaultVerdict, reactedAt}
-use Rattle.conversations.proofs.ListLaws.{by-test, by-less}
+use Rattle.places.specs.Places.{Place, free, phaseOf}
+use Rattle.verdicts.specs.Record.{RuleRecord}
+use Rattle.records.specs.Records.{Records, recordsOf, recordAt, default}
+use Rattle.conversations.specs.Tracking.{freeAt, heldAt, Tracked, moved, begun, trackedIn, tracked}
+use Rattle.flags.specs.Flags.{nextOf}
+use Rattle.verdicts.specs.Rule.{
+  allowed,
+  allowedByDefault,
+  blockedByDefault,
+  blockedByRule,
+  overRate,
+  raised,
+  over,
+  decided,
+  reacted,
+  verdictOf,
+  asTracked,
+  defaultVerdict,
+}
+use Rattle.records.specs.Step.{ticked, reactedAt}
+use Rattle.numbers.proofs.Tests.{by-test, by-less}
 use Rattle.records.proofs.GoodLaws.{at-rule, at-default}
 use Rattle.steps.specs.Steps.{turnOf, outcomeOf}
 use Rattle.firewall.specs.Firewall.{answered, After}

@@ -2,11 +2,14 @@
 use Prim.Native.Nat.{ℕ}
 use mathlib.Core.Path.{_≡_, refl, sym, ap, _∙_}
 use mathlib.Core.List.{List}
-use Rattle.conversations.specs.Places.{Place, placesOf, placesWords, ShapedPlaces}
+use Rattle.places.specs.Places.{Place, placesOf, placesWords, ShapedPlaces}
 use Rattle.conversations.specs.Tracking.{Tracked}
-use Rattle.conversations.proofs.PlaceLaws.{places-back}
+use Rattle.places.proofs.PlaceLaws.{places-back}
 use Rattle.records.specs.Records.{Lent, wordsOf}
-use Rattle.records.specs.declared.verdict.Verdict.{Verdict}
+use Rattle.verdicts.specs.Record.{RuleRecord, countSize, ruleOf, countRow, placeRows}
+use Rattle.verdicts.specs.Rule.{Reacted}
+use Rattle.verdicts.specs.declared.verdict.Verdict.{Verdict}
+use Rattle.numbers.proofs.Elements.{row-back}
 use Rattle.records.proofs.WordLaws.{words-back}
 use Rattle.steps.specs.Steps.{Stepped, stepped, steppedAs}
 use Rattle.steps.specs.declared.Answer.{Answer}
@@ -20,7 +23,7 @@ use Rattle.firewall.specs.declared.Switched.{Switched}
 use Rattle.firewall.specs.declared.Switched.the-variants as switched
 use Rattle.firewall.specs.declared.Judged.{Judged}
 use Rattle.firewall.specs.declared.Judged.the-variants as judged
-use Rattle.theorems.specs.Unique.{OneOutcome, Unique}
+use Rattle.theorems.specs.Unique.{OneOutcome, RowOf, Unique}
 
 -- ---- what is said tells the answer
 
@@ -95,6 +98,14 @@ stepped-same z r q v u x y e f = (
 places-same : (ps : List Place) (v u : List (List ℕ)) → ShapedPlaces v → ShapedPlaces u → placesOf v ≡ ps → placesOf u ≡ ps → v ≡ u
 places-same ps v u h k e f = sym (places-back v (h .1)) ∙ ap placesWords (e ∙ sym f) ∙ places-back u (k .1)
 
+record-same :
+    (x : RuleRecord) (c d : List ℕ) (v u : List (List ℕ)) → RowOf c v → RowOf d u → ruleOf c v ≡ x → ruleOf d u ≡ x
+    → (c ≡ d) × (v ≡ u)
+record-same x c d v u h k e f = (
+  sym (row-back countSize c (h .counts)) ∙ ap countRow (e ∙ sym f) ∙ row-back countSize d (k .counts),
+  sym (places-back v (h .places)) ∙ ap placeRows (e ∙ sym f) ∙ places-back u (k .places),
+)
+
 pub one-outcome : OneOutcome
 one-outcome A is x y e f = e ∙ sym f
 
@@ -105,6 +116,11 @@ unique = record {
   places = places-same;
   tracked = λ x r q v u h k e f.
       (ap (λ (z : Tracked). z .progress) (e ∙ sym f), places-same (x .places) v u h k (ap (λ (z : Tracked). z .places) e) (ap (λ (z : Tracked). z .places) f));
+  row = record-same;
+  reacted = λ x r q c d v u h k e f.
+      let w = record-same (x .after) c d v u h k (ap (λ (z : Reacted). z .after) e) (ap (λ (z : Reacted). z .after) f) in
+      (verdict-same r q (ap (λ (z : Reacted). z .verdict) (e ∙ sym f)), w .0, w .1);
+  laid = λ fs w x h k. h .is ∙ sym (k .is);
   wrote = λ event space x y n m h k. (h .count ∙ sym (k .count), h .left ∙ sym (k .left));
   read = λ bytes r q e f. e ∙ sym f;
   check = λ t w r q e f. checked-same r q (e ∙ sym f);

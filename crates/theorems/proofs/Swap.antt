@@ -11,9 +11,10 @@ use Rattle.layers.specs.declared.Layers.{Layers}
 use Rattle.table.specs.declared.Table.{Table}
 use Rattle.faults.specs.declared.Fault.the-variants as fault
 use Rattle.faults.specs.Faults.{faultOf}
-use Rattle.matching.specs.Matching.{deciderOf}
+use Rattle.deciding.specs.Decider.{deciderOf}
 use Rattle.conversations.specs.declared.Turn.{Turn}
-use Rattle.records.specs.Records.{RuleRecord, noRecord, Records, Lent, recordsOf, wordsOf, Shaped}
+use Rattle.verdicts.specs.Record.{RuleRecord, noRecord}
+use Rattle.records.specs.Records.{Records, Lent, recordsOf, wordsOf, Shaped}
 use Rattle.records.specs.Good.{recordsGood}
 use Rattle.records.specs.Step.{ticked, reactedAt, reaction, acted}
 use Rattle.records.proofs.GoodLaws.{acted-other, ticked-still}

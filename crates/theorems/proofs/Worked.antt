@@ -5,30 +5,77 @@ use mathlib.Core.Path.{_≡_, refl, sym, _∙_}
 use mathlib.Core.List.{List, [], _∷_, map}
 use Rattle.numbers.specs.Bytes.{be, onesAdd, onesSum}
 use Rattle.numbers.specs.Lists.{firstFrom, allBelow}
-use Rattle.layers.specs.Link.{tagged, linkOf}
-use Rattle.layers.specs.Ip.{ipv4Tests, ipv4Here, packetAt, ipOf}
+use Rattle.packets.specs.Link.{tagged, linkOf}
+use Rattle.packets.specs.Ip.{ipv4Tests, ipv4Here, packetAt, ipOf}
 use Rattle.layers.specs.Transport.{unfragmented, tcpTests, tcpHere, udpTests, udpHere, segmentAt, datagramAt, transportAt, transportOf}
 use Rattle.layers.specs.Someip.{someipTests, someipHere, messageAt, someipAt, someipOf}
 use Rattle.layers.specs.Layers.{layersOf, tooShort, shownOf}
 use Rattle.table.specs.Settings.{prefixAgrees}
 use Rattle.table.specs.Table.{marked, bucketOf, trackingOf}
-use Rattle.faults.specs.Faults.{ruleTests, freshId, faulty, marksGood, statesGood, faultOf}
-use Rattle.matching.specs.Best.{scoreOf, greatest, bestOf}
-use Rattle.matching.specs.Matching.{linkMatches, ipv4Matches, transportMatches, someipMatches, layerTests, ruleMatches, decides, deciderOf}
-use Rattle.records.specs.Good.{recordTests, recordGood, recordsGood}
+use Rattle.ranges.specs.Ranges.{ruleTests}
+use Rattle.faults.specs.Faults.{freshId, faulty, marksGood, statesGood, faultOf}
+use Rattle.deciding.specs.Best.{scoreOf, greatest, bestOf}
+use Rattle.matching.specs.Matching.{linkMatches, ipv4Matches, transportMatches, someipMatches, layerTests, ruleMatches}
+use Rattle.deciding.specs.Decider.{decides, deciderOf}
+use Rattle.verdicts.specs.Good.{recordTests, recordGood}
+use Rattle.records.specs.Good.{recordsGood}
 use Rattle.records.specs.Records.{Lent, recordsOf, wordsOf}
-use Rattle.conversations.specs.Tracking.{kindOf, holds, trackedIn}
-use Rattle.conversations.specs.Ageing.{agedPlace}
-use Rattle.records.specs.Rule.{aged, decided, reacted}
+use Rattle.flags.specs.Flags.{kindOf}
+use Rattle.places.specs.Places.{holds}
+use Rattle.conversations.specs.Tracking.{trackedIn}
+use Rattle.places.specs.Ageing.{agedPlace}
+use Rattle.verdicts.specs.Rule.{aged, decided, reacted}
 use Rattle.records.specs.Step.{freshOf, ticked, reactedAt, acted}
 use Rattle.events.specs.Events.{array, eventBytes, mismatchOf}
 use Rattle.steps.specs.Steps.{eventFor, outcomeOf}
 use Rattle.firewall.specs.Firewall.{Said, refused, done, answered, judgeOf}
 use Rattle.theorems.specs.Run.{go, Told, tell}
 use Rattle.paper.specs.TableT.{tableT}
-use Rattle.paper.specs.Frames.{hex, frameA, padded, withType, withPort, frame0806, tcp, ack1, synAck1, syn1, syn2, syn3, first13, tagged17, frameBytes}
+use Rattle.paper.specs.Frames.{
+  hex,
+  frameA,
+  padded,
+  withType,
+  withPort,
+  frame0806,
+  tcp,
+  ack1,
+  synAck1,
+  syn1,
+  syn2,
+  syn3,
+  first13,
+  tagged17,
+  frameBytes,
+}
 use Rattle.paper.specs.Worked.{lines}
-use Rattle.theorems.specs.Worked.{Step, Example, Ran, next, valuesIn, ran, eventSpace, m1, m2, m3, m4, rateEvent, m5, m6, connectionsEvent, m7, m8, m9, m10, m11, worked, outcomes, expectations, callsFrom, PageRight}
+use Rattle.theorems.specs.Worked.{
+  Step,
+  Example,
+  Ran,
+  next,
+  valuesIn,
+  ran,
+  eventSpace,
+  m1,
+  m2,
+  m3,
+  m4,
+  rateEvent,
+  m5,
+  m6,
+  connectionsEvent,
+  m7,
+  m8,
+  m9,
+  m10,
+  m11,
+  worked,
+  outcomes,
+  expectations,
+  callsFrom,
+  PageRight,
+}
 
 -- To compute a run costs little if each call starts from words that are computed already, and far too much if it must compute the
 -- calls before it anew. So each of these hands on what it is given once it is computed, and changes nothing.

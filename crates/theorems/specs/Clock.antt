@@ -12,7 +12,7 @@ use Rattle.table.specs.declared.Table.{Table}
 use Rattle.table.specs.declared.Bucket.the-variants as bucket
 use Rattle.table.specs.declared.Tracking.the-variants as tracking
 use Rattle.table.specs.Table.{ruleAt, bucketOf, trackingOf}
-use Rattle.matching.specs.Matching.{deciderOf}
+use Rattle.deciding.specs.Decider.{deciderOf}
 use Rattle.records.specs.Records.{Lent, recordsOf, default, Shaped}
 use Rattle.steps.specs.Steps.{Arrival, arrival}
 use Rattle.firewall.specs.Firewall.{After, judgeOf}

@@ -18,15 +18,17 @@ use Rattle.table.specs.declared.Tracking.{Tracking}
 use Rattle.table.specs.declared.Tracking.the-variants as tracking
 use Rattle.table.specs.Table.{ruleAt, stateAt, active, isAllow, bucketOf, trackingOf}
 use Rattle.matching.specs.Matching.{ruleMatches}
-use Rattle.conversations.specs.declared.FlagKind.{FlagKind}
-use Rattle.conversations.specs.declared.FlagKind.the-variants as kind
-use Rattle.conversations.specs.declared.Next.{Next}
-use Rattle.conversations.specs.declared.Next.the-variants as next
+use Rattle.flags.specs.declared.FlagKind.{FlagKind}
+use Rattle.flags.specs.declared.FlagKind.the-variants as kind
+use Rattle.flags.specs.declared.Next.{Next}
+use Rattle.flags.specs.declared.Next.the-variants as next
 use Rattle.conversations.specs.declared.Turn.{Turn}
-use Rattle.conversations.specs.Places.{Place, free}
-use Rattle.records.specs.Records.{RuleRecord, Records, Lent, recordsOf, recordAt}
-use Rattle.conversations.specs.Tracking.{freeAt, heldAt, nextOf, phaseOf}
-use Rattle.records.specs.Rule.{allowed, allowedByDefault, raised, over}
+use Rattle.places.specs.Places.{Place, free, phaseOf}
+use Rattle.verdicts.specs.Record.{RuleRecord}
+use Rattle.records.specs.Records.{Records, Lent, recordsOf, recordAt}
+use Rattle.conversations.specs.Tracking.{freeAt, heldAt}
+use Rattle.flags.specs.Flags.{nextOf}
+use Rattle.verdicts.specs.Rule.{allowed, allowedByDefault, raised, over}
 use Rattle.records.specs.Step.{ticked}
 use Rattle.steps.specs.Steps.{Arrival, seenOf, turnOf}
 use Rattle.firewall.specs.Firewall.{answered, judgeOf}

@@ -10,7 +10,7 @@ use Rattle.layers.specs.Layers.{shownOf}
 use Rattle.layers.specs.declared.Layers.{Layers}
 use Rattle.layers.specs.declared.Shown.the-variants as shown
 use Rattle.table.specs.declared.Table.{Table}
-use Rattle.matching.specs.Matching.{deciderOf}
+use Rattle.deciding.specs.Decider.{deciderOf}
 use Rattle.records.specs.Records.{Lent, recordsOf, Shaped}
 use Rattle.records.specs.Good.{recordsGood}
 use Rattle.events.specs.Events.{eventRoom}

@@ -5,7 +5,8 @@ use mathlib.Core.Path.{_≡_}
 use mathlib.Core.List.{List, [], _∷_}
 use Rattle.numbers.specs.Lists.{swapAll, ends, said}
 use Rattle.table.specs.declared.Table.{Table}
-use Rattle.records.specs.Records.{RuleRecord, Records, Lent, recordsOf, recordAt, Shaped}
+use Rattle.verdicts.specs.Record.{RuleRecord}
+use Rattle.records.specs.Records.{Records, Lent, recordsOf, recordAt, Shaped}
 use Rattle.steps.specs.Steps.{Arrival}
 use Rattle.firewall.specs.Firewall.{Said, refused, done, answered, leaves, startOf, switchOf, judgeOf}
 use Rattle.theorems.specs.Run.{Item, go, Told, tell, Good, MayAll, Apart}

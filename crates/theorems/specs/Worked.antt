@@ -7,10 +7,12 @@ use mathlib.Core.List.{List, [], _∷_, _++_, map}
 use lib.ListN.{length, getD, set, take}
 use Rattle.numbers.specs.Lists.{copies, ends, said}
 use Rattle.layers.specs.Layers.{layersOf}
-use Rattle.layers.specs.declared.Ip.{Ip}
-use Rattle.layers.specs.declared.Ip.the-variants as ip
-use Rattle.conversations.specs.Places.{mostPlaces, Place, free, nothing}
-use Rattle.records.specs.Records.{RuleRecord, Lent, default, recordAt, recordsOf, wordsOf}
+use Rattle.packets.specs.declared.Ip.{Ip}
+use Rattle.packets.specs.declared.Ip.the-variants as ip
+use Rattle.table.specs.Table.{mostPlaces}
+use Rattle.places.specs.Places.{Place, free, nothing}
+use Rattle.verdicts.specs.Record.{RuleRecord}
+use Rattle.records.specs.Records.{Lent, default, recordAt, recordsOf, wordsOf}
 use Rattle.records.specs.Step.{freshOf}
 use Rattle.events.specs.Events.{eventRoom}
 use Rattle.steps.specs.Steps.{arrival}

@@ -5,8 +5,6 @@ mod print;
 mod rules;
 mod same;
 
-use conversations::PLACE_WORDS;
-use conversations::PLACES;
 use events::ROOM;
 use firewall::Started;
 use paper::Line;
@@ -14,18 +12,20 @@ use paper::frames::MOST;
 use paper::frames::frame;
 use paper::lines::count;
 use paper::lines::line;
+use places::PLACE_WORDS;
 use print::number;
 use print::text;
 use records::COUNT_ROWS;
-use records::COUNT_WORDS;
 use records::Counts;
 use records::HEAD_WORDS;
 use records::Head;
 use records::Places;
+use table::PLACES;
 use table::RULES;
 use table::words::ROW_WORDS;
 use table::words::ROWS;
 use table::words::TableWords;
+use verdicts::COUNT_WORDS;
 
 fn fresh(t: &TableWords, head: &mut Head, counts: &mut Counts, places: &mut Places) {
     let Started::Fresh = firewall::fresh(t, 0, head, counts, places) else {

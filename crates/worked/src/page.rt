@@ -1,5 +1,4 @@
 // A line of the page: what was asked, what was answered, and the records after it.
-ghost use Prim.Native.Nat.{_≤_};
 use crate::print::left;
 use crate::print::number;
 use crate::print::right;
@@ -7,11 +6,6 @@ use crate::print::spaces;
 use crate::print::text;
 use crate::print::wide8;
 use crate::print::wide16;
-use conversations::PLACES;
-use conversations::PlaceWords;
-use conversations::RulePlaces;
-use conversations::place::age;
-use conversations::place::state;
 use events::Event;
 use events::ROOM;
 use firewall::Judged;
@@ -20,21 +14,26 @@ use numbers::count8;
 use numbers::read16;
 use numbers::wide64;
 use paper::Frame;
-use records::BLOCKED;
-use records::CountWords;
+use places::PlaceWords;
+use places::RulePlaces;
+use places::place::age;
+use places::place::state;
 use records::Counts;
-use records::LEVEL;
-use records::PASSED;
 use records::Places;
-use records::verdict::Verdict;
 use steps::Answer;
 use table::Bucket;
+use table::PLACES;
 use table::RULES;
 use table::Tracking;
 use table::words::RuleWords;
 use table::words::TableWords;
 use table::words::bucket;
 use table::words::tracking;
+use verdicts::BLOCKED;
+use verdicts::CountWords;
+use verdicts::LEVEL;
+use verdicts::PASSED;
+use verdicts::verdict::Verdict;
 
 pub(crate) fn title() {
     text(

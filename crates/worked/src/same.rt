@@ -1,17 +1,17 @@
 // Two records compared, word by word.
-use conversations::PLACES;
-use conversations::RulePlaces;
+use places::RulePlaces;
 use records::ACTIVE;
-use records::BLOCKED;
 use records::COUNT_ROWS;
-use records::CountWords;
 use records::Counts;
 use records::Head;
 use records::LAST;
-use records::LEVEL;
-use records::PASSED;
 use records::Places;
+use table::PLACES;
 use table::RULES;
+use verdicts::BLOCKED;
+use verdicts::CountWords;
+use verdicts::LEVEL;
+use verdicts::PASSED;
 
 fn words(a: &[u64], b: &[u64]) -> bool {
     let mut i = 0;

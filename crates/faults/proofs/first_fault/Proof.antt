@@ -8,12 +8,13 @@ use lib.ListN.{getD}
 use Rattle.numbers.specs.Lists.{leading, firstFrom, first, allBelow}
 use Rattle.numbers.proofs.Lists.{first-start}
 use Rattle.table.specs.Table.{mostRules}
-use Rattle.faults.specs.Faults.{ruleTests, freshId, faulty, statesGood, Listed, faultOf}
+use Rattle.ranges.specs.Ranges.{ruleTests}
+use Rattle.faults.specs.Faults.{freshId, faulty, statesGood, Listed, faultOf}
 use Rattle.table.specs.Words.{ruleIn, tableIn}
 use Rattle.table.specs.declared.Rule.{Rule}
 use Rattle.faults.specs.declared.Fault.the-variants as fault
 use Rattle.table.proofs.Rows.{rule-at}
-use Rattle.faults.proofs.Rules.{listed-fresh}
+use Rattle.faults.proofs.Ids.{listed-fresh}
 use Rattle.faults.proofs.FirstFault.{passed, fault-count, fault-here, fault-next, fault-states}
 use borrow.Author.Needs.{needs}
 use native.Mathlib.Omega.{arith}

@@ -7,7 +7,7 @@ use Rattle.faults.specs.Faults.{Listed}
 use Rattle.table.specs.Words.{tableIn}
 use Rattle.table.specs.declared.Rule.{Rule}
 use Rattle.table.proofs.Rows.{rule-at}
-use Rattle.faults.proofs.Rules.{listed-next}
+use Rattle.faults.proofs.Ids.{listed-next}
 use borrow.Author.Needs.{needs}
 use native.Mathlib.Omega.{arith}
 use Rattle.faults.proofs.ids_of.Statement.{statement}

@@ -7,7 +7,7 @@ use lib.ListN.{getD}
 use borrow.Author.Tests.{eq-eqb, ne-eqb}
 use Rattle.numbers.specs.Lists.{allBelow}
 use Rattle.numbers.proofs.Lists.{below-none, below-next, below-fails}
-use Rattle.faults.proofs.Rules.{once-new}
+use Rattle.faults.proofs.Ids.{once-new}
 use borrow.Author.Needs.{needs}
 use native.Mathlib.Omega.{arith}
 use native.Mathlib.Omega.{arith}

@@ -1,6 +1,7 @@
 use mathlib.Core.Path.{ap, _∙_}
-use Rattle.faults.specs.Faults.{knownAction, marksGood}
-use Rattle.table.proofs.Chains.{both}
+use Rattle.ranges.specs.Ranges.{knownAction}
+use Rattle.faults.specs.Faults.{marksGood}
+use Rattle.numbers.proofs.Chains.{both}
 use borrow.Author.Needs.{needs}
 use Rattle.faults.proofs.state_good.Statement.{statement}
 use Rattle.faults.proofs.state_good.Tie as tie

@@ -8,7 +8,6 @@ use Rattle.numbers.proofs.Lists.{below-none, below-next, below-fails}
 use Rattle.table.specs.Table.{mostStates}
 use Rattle.faults.specs.Faults.{stateGood, statesGood}
 use Rattle.table.specs.Words.{tableIn}
-use borrow.Author.Needs.{needs}
 use native.Mathlib.Omega.{arith}
 use Rattle.faults.proofs.states_good.Statement.{statement}
 use Rattle.faults.proofs.states_good.Tie as tie

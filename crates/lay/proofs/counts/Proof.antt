@@ -1,6 +1,6 @@
 -- The row of the counts, as its definition has it.
 use mathlib.Core.Path.{refl}
-use Rattle.lay.specs.Fields.{countWords}
+use Rattle.lay.specs.Layout.{countWords}
 use borrow.Author.Needs.{needs}
 use Rattle.lay.proofs.counts.Statement.{statement}
 use Rattle.lay.proofs.counts.Tie as tie

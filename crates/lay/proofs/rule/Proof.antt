@@ -1,4 +1,4 @@
-use Rattle.lay.proofs.Packing.{rule-laid}
+use Rattle.lay.proofs.Laid.{rule-laid}
 use borrow.Author.Needs.{needs}
 use Rattle.lay.proofs.rule.Statement.{statement}
 use Rattle.lay.proofs.rule.Tie as tie

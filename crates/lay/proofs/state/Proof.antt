@@ -2,8 +2,8 @@ use mathlib.Core.Path.{ap, _∙_}
 use mathlib.Core.List.{_∷_}
 use Rattle.numbers.specs.Lists.{copies}
 use Rattle.table.specs.Words.{actionFrom}
-use Rattle.lay.specs.Fields.{stateWords}
-use Rattle.lay.proofs.Packing.{action-read}
+use Rattle.lay.specs.Layout.{stateWords}
+use Rattle.fields.proofs.Packing.{action-read}
 use borrow.Author.Needs.{needs}
 use Rattle.lay.proofs.state.Statement.{statement}
 use Rattle.lay.proofs.state.Tie as tie

@@ -5,8 +5,8 @@ use lib.ListN.{length, take, drop, length-drop, length-set}
 use lib.Seq.{drop-set-add, take-all}
 use Rattle.table.specs.Table.{mostStates, noState}
 use Rattle.table.specs.Words.{stateRow, tableRows, stateIn}
-use Rattle.lay.specs.Fields.{LaidAs, stateWords}
-use Rattle.lay.proofs.Packing.{rows-next}
+use Rattle.lay.specs.Layout.{LaidAs, stateWords}
+use Rattle.lay.proofs.Laid.{rows-next}
 use borrow.Author.Needs.{needs}
 use native.Mathlib.Omega.{arith}
 use Rattle.lay.proofs.states.Statement.{statement}

@@ -5,8 +5,8 @@ use lib.ListN.{length, take, drop, length-set}
 use lib.Seq.{drop-set-lt, take-all}
 use Rattle.table.specs.Table.{mostRules, noRule}
 use Rattle.table.specs.Words.{stateRow, tableRows, ruleIn, stateIn}
-use Rattle.lay.specs.Fields.{LaidAs, ruleWords, stateWords}
-use Rattle.lay.proofs.Packing.{rows-next, table-laid}
+use Rattle.lay.specs.Layout.{LaidAs, ruleWords, stateWords}
+use Rattle.lay.proofs.Laid.{rows-next, table-laid}
 use borrow.Author.Needs.{needs}
 use native.Mathlib.Omega.{arith}
 use Rattle.lay.proofs.table.Statement.{statement}

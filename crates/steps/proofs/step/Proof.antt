@@ -5,9 +5,9 @@ use Rattle.layers.proofs.Laws.{shows-inside}
 use Rattle.layers.specs.Seen.{seen}
 use Rattle.faults.proofs.Good.{good-count}
 use Rattle.table.specs.Words.{tableIn}
-use Rattle.matching.specs.Matching.{deciderOf}
-use Rattle.matching.specs.declared.Decision.{Decision}
-use Rattle.matching.proofs.Deciders.{decider-small}
+use Rattle.deciding.specs.Decider.{deciderOf}
+use Rattle.deciding.specs.declared.Decision.{Decision}
+use Rattle.deciding.proofs.Deciders.{decider-small}
 use Rattle.steps.proofs.Laws.{few-places, shown-long, state-small, ticked-small, step-is}
 use borrow.Author.Needs.{needs}
 use Rattle.steps.proofs.step.Statement.{statement}

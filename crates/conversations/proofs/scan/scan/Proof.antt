@@ -23,9 +23,77 @@ use prog.Wp.{Heap, Out, Env, Calls, Loops, Wp, WpFn, Tables, afterSeq, afterBloc
 use ghost.Atoms.{Atoms, sem}
 use contract.Monad.{Fun, fact}
 use contract.Running.{givenOf, tables, tablesOf}
-use types.Kit.{Given, Item, Sq, runs, anyQ, atRet, ‵, raw, some, later, _⊛_, ⋆, _$_, _∵_, !, qed, by, move, keep, drop, use1, split, join, pick, rewrite, fsplit, fjoin, suffices, frame, await, done}
+use types.Kit.{
+  Given,
+  Item,
+  Sq,
+  runs,
+  anyQ,
+  atRet,
+  ‵,
+  raw,
+  some,
+  later,
+  _⊛_,
+  ⋆,
+  _$_,
+  _∵_,
+  !,
+  qed,
+  by,
+  move,
+  keep,
+  drop,
+  use1,
+  split,
+  join,
+  pick,
+  rewrite,
+  fsplit,
+  fjoin,
+  suffices,
+  frame,
+  await,
+  done,
+}
 use types.Part.{whole, sub, look-in, agg}
-use types.Run.{look, look-raw, init, store, forget, stop, hop, fld, from, load, lit, of-opd, and-then, no-more, bin, assigns, assigns-last, land, first, blocks, stays, leaves-loop, exec, Below, again, loops, returns, enter, alloc1, alloc0, params1, pass1, pass0, free1, free0}
+use types.Run.{
+  look,
+  look-raw,
+  init,
+  store,
+  forget,
+  stop,
+  hop,
+  fld,
+  from,
+  load,
+  lit,
+  of-opd,
+  and-then,
+  no-more,
+  bin,
+  assigns,
+  assigns-last,
+  land,
+  first,
+  blocks,
+  stays,
+  leaves-loop,
+  exec,
+  Below,
+  again,
+  loops,
+  returns,
+  enter,
+  alloc1,
+  alloc0,
+  params1,
+  pass1,
+  pass0,
+  free1,
+  free0,
+}
 use types.Share.{arr-parts}
 use sound.WpLaws.{fmOf, WpFn-mono}
 use denote.RattleType.{owns}
@@ -48,12 +116,12 @@ use denote.Triple.Table.{entered, cited}
 use denote.Triple.Walked.{says, Stays, stay-dropped, walkOf, goes-dropped, Walks, ends-at, walked, walk-meets}
 use denote.Exit.{yes}
 use Rattle.conversations.specs.Scan.{seenBy, nowhere, scanOf}
-use Rattle.conversations.specs.declared.Quad.{Quad}
+use Rattle.places.specs.declared.Quad.{Quad}
 use Rattle.conversations.specs.declared.scan.Conversation.{Conversation}
 use Rattle.conversations.specs.declared.scan.Found.{Found}
 use Rattle.conversations.proofs.ScanLaws.{empty, Upto, at-start, one-more, at-end}
-use Rattle.conversations.proofs.Quad as Q
-use Rattle.conversations.proofs.Quad.Laws as Q′
+use Rattle.places.proofs.Quad as Q
+use Rattle.places.proofs.Quad.Laws as Q′
 use Rattle.conversations.proofs.scan.Conversation as T
 use Rattle.conversations.proofs.scan.Conversation.Laws as T′
 use Rattle.conversations.proofs.scan.Found as F

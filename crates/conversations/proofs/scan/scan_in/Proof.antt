@@ -19,9 +19,61 @@ use prog.Wp.{Heap, Calls, Loops, WpFn, Tables}
 use ghost.Atoms.{Atoms, sem}
 use contract.Monad.{Fun, fact}
 use contract.Running.{givenOf, tables, tablesOf}
-use types.Kit.{Given, ‵, raw, some, later, _⊛_, ⋆, _$_, _∵_, !, qed, by, move, keep, drop, use1, use2, split, join, pick, rewrite, fsplit, fjoin, feqI, suffices, frame, await, done}
+use types.Kit.{
+  Given,
+  ‵,
+  raw,
+  some,
+  later,
+  _⊛_,
+  ⋆,
+  _$_,
+  _∵_,
+  !,
+  qed,
+  by,
+  move,
+  keep,
+  drop,
+  use1,
+  use2,
+  split,
+  join,
+  pick,
+  rewrite,
+  fsplit,
+  fjoin,
+  feqI,
+  suffices,
+  frame,
+  await,
+  done,
+}
 use types.Part.{agg}
-use types.Run.{look, init, forget, stop, from, load, lit, of-opd, and-then, no-more, addr, assigns, land, returns, enter, alloc1, alloc0, params1, pass1, pass0, free1, free0}
+use types.Run.{
+  look,
+  init,
+  forget,
+  stop,
+  from,
+  load,
+  lit,
+  of-opd,
+  and-then,
+  no-more,
+  addr,
+  assigns,
+  land,
+  returns,
+  enter,
+  alloc1,
+  alloc0,
+  params1,
+  pass1,
+  pass0,
+  free1,
+  free0,
+}
 use types.Share.{arr-parts}
 use types.Tokens.{lft-new, lft-end, lent-back}
 use sound.WpLaws.{FmC, fmOf, WpFn-mono}
@@ -47,11 +99,11 @@ use denote.Triple.Walked.{says, Stays, stay-dropped, walkOf, goes-dropped, Walks
 use denote.Exit.{yes}
 use borrow.Table.OneValue.{part-out, part-in}
 use Rattle.conversations.specs.Scan.{scanOf}
-use Rattle.conversations.specs.declared.Quad.{Quad}
+use Rattle.places.specs.declared.Quad.{Quad}
 use Rattle.conversations.specs.declared.scan.Conversation.{Conversation}
 use Rattle.conversations.specs.declared.scan.Found.{Found}
-use Rattle.conversations.proofs.Quad as Q
-use Rattle.conversations.proofs.Quad.Laws as Q′
+use Rattle.places.proofs.Quad as Q
+use Rattle.places.proofs.Quad.Laws as Q′
 use Rattle.conversations.proofs.scan.Conversation as T
 use Rattle.conversations.proofs.scan.Conversation.Laws as T′
 use Rattle.conversations.proofs.scan.Found as F

@@ -2,7 +2,7 @@
 -- Assumes nothing.
 use borrow.Author.Needs.{needs}
 use mathlib.Core.Path.{sym, ap, _∙_}
-use Rattle.conversations.specs.Places.{placesOf}
+use Rattle.places.specs.Places.{placesOf}
 use Rattle.conversations.specs.Tracking.{begun}
 use Rattle.conversations.proofs.track.begin.Statement.{statement}
 use Rattle.conversations.proofs.track.begin.Tie as tie

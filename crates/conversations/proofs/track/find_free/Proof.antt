@@ -1,8 +1,8 @@
 -- `conversations::track::find_free` meets its contract.
 -- Assumes nothing.
 use lib.ListN.{getD}
-use Rattle.conversations.specs.Places.{free, isFree, placesOf}
-use Rattle.conversations.proofs.ScanLaws.{first-fewer}
+use Rattle.places.specs.Places.{free, isFree, placesOf}
+use Rattle.numbers.proofs.Lists.{first-fewer}
 use native.Mathlib.Omega.{arith}
 use borrow.Author.Needs.{needs}
 use Rattle.conversations.proofs.track.find_free.Statement.{statement}

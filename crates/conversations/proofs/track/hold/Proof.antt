@@ -1,10 +1,9 @@
 -- `conversations::track::hold` meets its contract.
 -- Assumes nothing.
 use mathlib.Core.Path.{ap, _∙_}
-use Rattle.conversations.specs.Places.{placeOf}
-use Rattle.conversations.specs.Tracking.{heldAs}
-use Rattle.conversations.proofs.PlaceLaws.{place-same}
-use Rattle.conversations.proofs.PlacesLaws.{held-fits}
+use Rattle.places.specs.Places.{placeOf, heldAs}
+use Rattle.places.proofs.PlaceLaws.{place-same}
+use Rattle.places.proofs.PlacesLaws.{held-fits}
 use borrow.Author.Needs.{needs}
 use Rattle.conversations.proofs.track.hold.Statement.{statement}
 use Rattle.conversations.proofs.track.hold.Tie as tie

@@ -1,7 +1,7 @@
 -- `conversations::track::move_place` meets its contract.
 -- Assumes nothing.
 use mathlib.Core.Path.{sym, ap, _∙_}
-use Rattle.conversations.specs.Places.{placesOf}
+use Rattle.places.specs.Places.{placesOf}
 use Rattle.conversations.specs.Tracking.{moved}
 use Rattle.conversations.proofs.TrackLaws.{stored}
 use borrow.Author.Needs.{needs}

@@ -1,7 +1,7 @@
 -- `layers::transport_layer::read_transport` meets its contract: by the cases of IP.
 use mathlib.Core.Path.{subst}
 use Rattle.layers.specs.Transport.{transportOf}
-use Rattle.layers.specs.Inside.{IpInside}
+use Rattle.packets.specs.Inside.{IpInside}
 use borrow.Author.Needs.{needs}
 use Rattle.layers.proofs.transport_layer.read_transport.Statement.{statement}
 use Rattle.layers.proofs.transport_layer.read_transport.Tie as tie

@@ -1,5 +1,5 @@
 use mathlib.Core.Path.{refl, _∙_}
-use Rattle.table.proofs.Chains.{stops, goes, both, ends}
+use Rattle.numbers.proofs.Chains.{stops, goes, both, ends}
 use Rattle.matching.proofs.Agreeing.{ipv4-absent, ipv4-present}
 use borrow.Author.Needs.{needs}
 use Rattle.matching.proofs.rules.ipv4_matches.Statement.{statement}

@@ -1,4 +1,4 @@
-use Rattle.table.proofs.Chains.{stops, goes}
+use Rattle.numbers.proofs.Chains.{stops, goes}
 use Rattle.matching.specs.Matching.{linkMatches}
 use borrow.Author.Needs.{needs}
 use Rattle.matching.proofs.rules.link_matches.Statement.{statement}

@@ -1,5 +1,5 @@
 use mathlib.Core.Path.{refl}
-use Rattle.table.proofs.Chains.{stops, goes, ends}
+use Rattle.numbers.proofs.Chains.{stops, goes, ends}
 use borrow.Author.Needs.{needs}
 use Rattle.matching.proofs.rules.ports_agree.Statement.{statement}
 use Rattle.matching.proofs.rules.ports_agree.Tie as tie

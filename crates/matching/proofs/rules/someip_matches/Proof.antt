@@ -1,5 +1,5 @@
 use mathlib.Core.Path.{refl, _∙_}
-use Rattle.table.proofs.Chains.{both, ends}
+use Rattle.numbers.proofs.Chains.{both, ends}
 use Rattle.matching.proofs.Agreeing.{someip-absent, someip-present}
 use borrow.Author.Needs.{needs}
 use Rattle.matching.proofs.rules.someip_matches.Statement.{statement}

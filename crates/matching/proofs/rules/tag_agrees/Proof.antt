@@ -1,5 +1,5 @@
 use mathlib.Core.Path.{refl}
-use Rattle.table.proofs.Chains.{both, ends}
+use Rattle.numbers.proofs.Chains.{both, ends}
 use borrow.Author.Needs.{needs}
 use Rattle.matching.proofs.rules.tag_agrees.Statement.{statement}
 use Rattle.matching.proofs.rules.tag_agrees.Tie as tie

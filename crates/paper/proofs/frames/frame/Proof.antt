@@ -14,8 +14,8 @@ length-requires c κs = search needs
 
 returns : tie.Need-returns
 returns c = (
-  (c .length .ensures, c .before .put .ensures),
-  rw (c .length .ensures, c .before .put .ensures) (within (frameBytes (c .before .before .before .args .f))),
+  c .length .ensures,
+  (c .before .put .ensures, rw (c .length .ensures, c .before .put .ensures) (within (frameBytes (c .before .before .before .args .f)))),
 )
 
 pub frame-spec : {M : Type 1} → statement M

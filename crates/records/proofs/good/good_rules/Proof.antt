@@ -1,6 +1,6 @@
 -- `records::good::good_rules` meets its contract.
 -- Assumes nothing.
-use Prim.Native.Nat.{_≤_, _-_, min}
+use Prim.Native.Nat.{_≤_, _-_}
 use mathlib.Core.Path.{_≡_, sym, ap, _∙_}
 use mathlib.Core.Bool.{true}
 use Rattle.numbers.specs.Lists.{allBelow}

@@ -1,6 +1,6 @@
 -- `records::good::good_slots` meets its contract.
 -- Assumes nothing.
-use Rattle.table.proofs.Chains.{both}
+use Rattle.numbers.proofs.Chains.{both}
 use borrow.Author.Needs.{needs}
 use Rattle.records.proofs.good.good_slots.Statement.{statement}
 use Rattle.records.proofs.good.good_slots.Tie as tie

@@ -1,7 +1,7 @@
 -- `records::good::no_levels` meets its contract.
 -- Assumes nothing.
 use Prim.Native.Nat.{_≤_, _-_}
-use mathlib.Core.Path.{_≡_, refl, sym, ap, _∙_}
+use mathlib.Core.Path.{_≡_, sym, ap, _∙_}
 use mathlib.Core.List.{[]}
 use mathlib.Core.Bool.{false, _||_}
 use lib.ListN.{getD}
@@ -9,8 +9,7 @@ use lib.Dec.{ltb, eqb}
 use borrow.Author.Tests.{lt-ltb, le-ltb}
 use Rattle.numbers.specs.Lists.{allBelow}
 use Rattle.numbers.proofs.Lists.{below-all}
-use Rattle.conversations.proofs.ListLaws.{or-first}
-use Rattle.conversations.proofs.GoodCode.{or-zero, below-more}
+use Rattle.numbers.proofs.Tests.{or-first, or-zero, below-more}
 use Rattle.records.specs.Good.{levelFrom}
 use borrow.Author.Needs.{needs}
 use native.Mathlib.Omega.{arith}

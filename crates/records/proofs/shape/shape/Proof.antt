@@ -7,8 +7,8 @@ use lib.ListN.{length}
 use mir.Syntax.{w32, w64}
 use denote.Plain.{UInt}
 use denote.Array.{Array}
-use Rattle.conversations.specs.Places.{ShapedPlace, ShapedPlaces}
-use Rattle.conversations.proofs.ShapeLaws.{sized-tells}
+use Rattle.places.specs.Places.{ShapedPlace, ShapedPlaces}
+use Rattle.numbers.proofs.Shapes.{sized-tells}
 use Rattle.records.proofs.shape.shape.Statement.{statement}
 use Rattle.records.proofs.shape.shape.Tie as tie
 

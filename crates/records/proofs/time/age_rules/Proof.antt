@@ -7,8 +7,8 @@ use Rattle.numbers.specs.Lists.{firsts}
 use Rattle.table.specs.Table.{noRule}
 use Rattle.table.specs.Words.{tableIn}
 use Rattle.table.proofs.Rows.{rule-at}
-use Rattle.records.specs.Records.{rulesOf}
-use Rattle.records.specs.Rule.{aged}
+use Rattle.records.specs.Records.{ruleRecords}
+use Rattle.verdicts.specs.Rule.{aged}
 use Rattle.records.proofs.TimeLaws.{rules-turn, rules-turned}
 use borrow.Author.Needs.{needs}
 use native.Mathlib.Omega.{arith}
@@ -16,7 +16,7 @@ use Rattle.records.proofs.time.age_rules.Statement.{statement}
 use Rattle.records.proofs.time.age_rules.Tie as tie
 
 abbrev Inv-loop : tie.InvT-loop
-Inv-loop t elapsed counts₀ places₀ n i₀ counts places i = (i ≤ n) × (length counts ≡ length counts₀) × (length places ≡ length places₀) × (rulesOf counts places ≡ firsts (λ j. aged elapsed (getD (tableIn t .rules) j noRule)) i (rulesOf counts₀ places₀))
+Inv-loop t elapsed counts₀ places₀ n i₀ counts places i = (i ≤ n) × (length counts ≡ length counts₀) × (length places ≡ length places₀) × (ruleRecords counts places ≡ firsts (λ j. aged elapsed (getD (tableIn t .rules) j noRule)) i (ruleRecords counts₀ places₀))
 
 abbrev μ-loop : tie.MeasureT-loop
 μ-loop t elapsed counts₀ places₀ n i₀ counts places i = n - i

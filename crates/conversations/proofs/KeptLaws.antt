@@ -1,0 +1,111 @@
+-- Good places stay good when a frame is tracked, as many as before, each as it fits into words.
+-- Assumes nothing.
+use Prim.Native.Nat.{ℕ, _<_, _≤_}
+use native.Mathlib.Omega.{arith}
+use mathlib.Core.Path.{_≡_, refl, sym, ap, subst, _∙_}
+use mathlib.Core.Bool.{true, false, false≢true}
+use mathlib.Core.List.{List}
+use lib.ListN.{length, set, length-set, List·getD-eq-default}
+use lib.Dec.{ltb}
+use borrow.Author.Tests.{lt-ltb, ltb-true, ltb-false}
+use Rattle.numbers.specs.Lists.{All}
+use Rattle.numbers.proofs.Lists.{cond-both, first-holds, first-before}
+use Rattle.table.specs.declared.Tracking.{Tracking}
+use Rattle.table.specs.declared.Tracking.the-variants as tracking
+use Rattle.table.specs.declared.Room.{Room}
+use Rattle.places.specs.Places.{Place, free, isFree, Fits, holds, phaseOf, heldAs}
+use Rattle.flags.specs.Flags.{nextOf}
+use Rattle.conversations.specs.Tracking.{Tracked, moved, begun, heldAt, freeAt, trackedIn, tracked}
+use Rattle.places.specs.Good.{placesIn, limitIn, alone, isIpv4}
+use Rattle.places.specs.declared.Quad.{Quad}
+use Rattle.flags.specs.declared.FlagKind.{FlagKind}
+use Rattle.flags.specs.declared.FlagKind.the-variants as kind
+use Rattle.flags.specs.declared.Phase.{Phase}
+use Rattle.flags.specs.declared.Phase.the-variants as phase
+use Rattle.flags.specs.declared.Next.{Next}
+use Rattle.flags.specs.declared.Next.the-variants as next
+use Rattle.conversations.specs.declared.Turn.{Turn}
+use Rattle.numbers.proofs.Tests.{by-less, or-second}
+use Rattle.numbers.proofs.Elements.{All-set}
+use Rattle.places.proofs.PlaceLaws.{free-fits}
+use Rattle.places.proofs.PlacesLaws.{at, PlacesGood, held-clean, set-good, set-free, phase-held, held-fits}
+use Rattle.places.proofs.HoldLaws.{holds-is, free-holds}
+
+-- What tracking can do to the places: nothing, a conversation on to its next state, one removed, or a new one in a free place
+module _ (m : Room) (g : Turn) (ps : List Place) (P : List Place → Type 0) (stays : P ps)
+    (goes : (i : ℕ) (f : Phase) → holds (g .quad) (at ps i) ≡ true → P (set ps i (heldAs (g .quad) f)))
+    (ends : (i : ℕ) → holds (g .quad) (at ps i) ≡ true → P (set ps i free))
+    (opens : (i : ℕ) → i < m .places → ((j : ℕ) → holds (g .quad) (at ps j) ≡ false) → P (set ps i (heldAs (g .quad) phase.Opening))) where
+  moved-by : (i : ℕ) (n : Next) → holds (g .quad) (at ps i) ≡ true → P (moved (g .quad) ps i n .places)
+  moved-by i (next.To f) h = goes i f h
+  moved-by i next.Removed h = ends i h
+  moved-by i next.No h = stays
+
+  begun-by : (k : FlagKind) → ((j : ℕ) → holds (g .quad) (at ps j) ≡ false) → P (begun m g ps k .places)
+  begun-by kind.Open none =
+      cond-both (λ (d : Tracked). P (d .places)) (ltb (freeAt ps (m .places)) (m .places)) _ _
+      (λ e. opens _ (ltb-true _ _ e) none)
+      (λ e. stays)
+  begun-by kind.Carry none = stays
+  begun-by kind.End none = stays
+  begun-by kind.Reset none = stays
+  begun-by kind.Wrong none = stays
+
+  tracked-by : P (trackedIn m g ps .places)
+  unfolding trackedIn
+  tracked-by =
+      cond-both (λ (d : Tracked). P (d .places)) (ltb (heldAt (g .quad) ps) (length ps)) _ _
+      (λ e.
+      let i : ℕ = heldAt (g .quad) ps in
+      moved-by i (nextOf (phaseOf (at ps i .state)) (g .kind))
+      (first-holds (λ j. holds (g .quad) (at ps j)) (length ps) (ltb-true _ _ e)))
+      (λ e. begun-by (g .kind) (λ j. none (ltb-false _ _ e) j))
+    where
+      none : length ps ≤ heldAt (g .quad) ps → (j : ℕ) → holds (g .quad) (at ps j) ≡ false
+      none h j =
+          by-less j (length ps) (λ n. first-before (λ j. holds (g .quad) (at ps j)) (length ps) j (omega arith))
+          (λ n. free-holds (g .quad) (at ps j) (ap isFree (List·getD-eq-default ps free n)))
+
+-- what a good table gives: an idle limit is at least 1
+abbrev pub LimitGood : Tracking → Type 0
+LimitGood tracking.Unset = Unit {0}
+LimitGood (tracking.Set m) = 1 ≤ m .limit
+
+pub places-tracked :
+    (t : Tracking) → LimitGood t → (g : Turn) → isIpv4 (g .quad) ≡ true → (ps : List Place) → PlacesGood (placesIn t) (limitIn t) ps
+    → PlacesGood (placesIn t) (limitIn t) (tracked t g ps .places)
+places-tracked tracking.Unset l g v ps p = p
+places-tracked (tracking.Set m) l g v ps p =
+    tracked-by m g ps (PlacesGood (m .places) (m .limit)) p
+    (λ i f h. anew i f (λ n. absurd (false≢true (sym (free-holds q (at ps i) (p .spare i n)) ∙ h))) (λ j k. p .single q j i k h))
+    (λ i h. set-free (m .places) (m .limit) ps i free p refl refl)
+    (λ i h none. anew i phase.Opening (λ n. absurd (omega arith)) (λ j k. absurd (false≢true (sym (none j) ∙ k))))
+  where
+    q : Quad
+    q = g .quad
+
+    anew :
+        (i : ℕ) (f : Phase) → (m .places ≤ i → ⊥) → ((j : ℕ) → holds q (at ps j) ≡ true → j ≡ i)
+        → PlacesGood (m .places) (m .limit) (set ps i (heldAs (g .quad) f))
+    anew i f in-room alone =
+        let y : Place = heldAs (g .quad) f in
+        set-good (m .places) (m .limit) ps i y p (λ h. absurd (in-room h)) (or-second (isFree y) _ (lt-ltb 0 (m .limit) l))
+        (held-clean y v (phase-held (g .quad) f))
+        (λ r j h k. alone j (subst (λ z. holds z (at ps j) ≡ true) (holds-is r y h .1) k))
+
+-- as many as before, and each fits into words as before
+pub tracked-length : (t : Tracking) (g : Turn) (ps : List Place) → length (tracked t g ps .places) ≡ length ps
+tracked-length tracking.Unset g ps = refl
+tracked-length (tracking.Set m) g ps =
+    tracked-by m g ps (λ qs. length qs ≡ length ps) refl
+    (λ i f h. length-set ps i _)
+    (λ i h. length-set ps i _)
+    (λ i h none. length-set ps i _)
+
+pub tracked-all-fit : (t : Tracking) (g : Turn) (ps : List Place) → All Fits ps → All Fits (tracked t g ps .places)
+tracked-all-fit tracking.Unset g ps a = a
+tracked-all-fit (tracking.Set m) g ps a =
+    tracked-by m g ps (All Fits) a
+    (λ i f h. All-set Fits ps i _ a (held-fits (g .quad) f))
+    (λ i h. All-set Fits ps i _ a free-fits)
+    (λ i h none. All-set Fits ps i _ a (held-fits (g .quad) phase.Opening))

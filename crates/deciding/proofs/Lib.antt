@@ -1,0 +1,3 @@
+pub mod Deciders
+pub mod Leading
+pub mod Fitting

@@ -1,0 +1,2 @@
+pub mod Decider
+pub mod Best

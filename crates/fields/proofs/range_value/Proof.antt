@@ -1,0 +1,18 @@
+use borrow.Author.Needs.{needs}
+use Rattle.fields.proofs.range_value.Statement.{statement}
+use Rattle.fields.proofs.range_value.Tie as tie
+
+enum-told : tie.Need-enum-told
+enum-told c = search needs
+
+enum-known-s : tie.Need-enum-known-s
+enum-known-s c = search needs
+
+returns : tie.Need-returns
+returns c = rw (c .enum-told .given .1)
+
+returns-2 : tie.Need-returns-2
+returns-2 c = search needs
+
+pub range-value-spec : {M : Type 1} → statement M
+range-value-spec = tie.close (tie.spec enum-told enum-known-s returns returns-2)

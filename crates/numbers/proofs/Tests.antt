@@ -1,0 +1,75 @@
+-- Laws of tests in general: one that passes or fails, two in a row, a word without a bit.
+-- Assumes nothing.
+use Prim.Native.Nat.{ℕ, zero, suc, _<_, _≤_, _+_}
+use native.Mathlib.Omega.{arith}
+use native.Mathlib.Numerals.{add-one}
+use mathlib.Core.Path.{_≡_, refl, sym}
+use mathlib.Core.Bool.{Bool, true, false, _&&_, _||_, true≢false}
+use lib.Bits.{bitOr, or-add-and, and-le-l, and-le-r}
+use lib.Dec.{ltb, eqb}
+use borrow.Author.Tests.{ltb-true, ltb-false, eqb-true, eq-eqb}
+use Rattle.numbers.specs.Lists.{allBelow}
+use Rattle.numbers.proofs.Lists.{and-both, and-true-true}
+
+-- a test passes or fails
+pub by-test : {P : Type 0} (b : Bool) → (b ≡ true → P) → (b ≡ false → P) → P
+by-test true f g = f refl
+by-test false f g = g refl
+
+pub by-less : {P : Type 0} (a b : ℕ) → (a < b → P) → (b ≤ a → P) → P
+by-less a b f g = by-test (ltb a b) (λ e. f (ltb-true a b e)) (λ e. g (ltb-false a b e))
+
+pub or-first : (a b : Bool) → a ≡ true → (a || b) ≡ true
+or-first a b e = rw e
+
+pub or-second : (a b : Bool) → b ≡ true → (a || b) ≡ true
+or-second true b e = refl
+or-second false b e = e
+
+pub or-rest : (a b : Bool) → (a || b) ≡ true → a ≡ false → b ≡ true
+or-rest true b e n = absurd (true≢false n)
+or-rest false b e n = e
+
+-- two tests that pass together are one
+pub both-ways : (a b : Bool) → (a ≡ true → b ≡ true) → (b ≡ true → a ≡ true) → a ≡ b
+both-ways true b f g = sym (f refl)
+both-ways false true f g = g refl
+both-ways false false f g = refl
+
+-- tests in a row, as the code writes them and as `every` has them
+pub and-true : (b : Bool) → b ≡ (b && true)
+and-true true = refl
+and-true false = refl
+
+pub and-assoc : (a b c : Bool) → ((a && b) && c) ≡ (a && (b && c))
+and-assoc true b c = refl
+and-assoc false b c = refl
+
+pub and-three : (a b c : Bool) → ((a && b) && c) ≡ (a && (b && (c && true)))
+and-three true true true = refl
+and-three true true false = refl
+and-three true false c = refl
+and-three false b c = refl
+
+pub and-four : (a b c d : Bool) → (((a && b) && c) && d) ≡ (a && (b && (c && (d && true))))
+and-four true b c d = and-three b c d
+and-four false b c d = refl
+
+-- no bit of two words is set
+pub or-zero : (x y : ℕ) → eqb (bitOr x y) 0 ≡ (eqb x 0 && eqb y 0)
+or-zero x y =
+    both-ways (eqb (bitOr x y) 0) (eqb x 0 && eqb y 0)
+    (λ e. let z = eqb-true (bitOr x y) 0 e in
+    and-true-true (eq-eqb x 0 (omega (arith, z, or-add-and x y, and-le-r x y))) (eq-eqb y 0 (omega (arith, z, or-add-and x y, and-le-l x y))))
+    (λ e. let z = and-both (eqb x 0) (eqb y 0) e in
+    eq-eqb (bitOr x y) 0 (omega (arith, eqb-true x 0 (z .0), eqb-true y 0 (z .1), or-add-and x y)))
+
+pub below-more : (p : ℕ → Bool) (n : ℕ) (a b : Bool) → a ≡ allBelow p n → b ≡ p n → (a && b) ≡ allBelow p (n + 1)
+unfolding allBelow
+below-more p n a b e f = rw (add-one n, e, f)
+
+-- tests that agree below n
+pub below-same : (p q : ℕ → Bool) (n : ℕ) → ((j : ℕ) → j < n → p j ≡ q j) → allBelow p n ≡ allBelow q n
+unfolding allBelow
+below-same p q zero h = refl
+below-same p q (suc n) h = rw (below-same p q n (λ j k. h j (omega arith)), h n (omega arith))

@@ -1,0 +1,96 @@
+-- When the places of one rule are bad. Document 01, 'The records'.
+-- Assumes nothing.
+use Prim.Native.Nat.{ℕ, _^_}
+use mathlib.Core.Bool.{Bool, _&&_, _||_, not}
+use mathlib.Core.List.{List, [], _∷_}
+use lib.ListN.{length, getD, drop}
+use lib.Dec.{ltb, eqb}
+use Rattle.numbers.specs.Lists.{every, everyOf, allBelow}
+use Rattle.table.specs.declared.Tracking.{Tracking}
+use Rattle.table.specs.declared.Tracking.the-variants as tracking
+use Rattle.places.specs.Places.{Unused, Place, free, isFree, placesOf, holds}
+use Rattle.table.specs.Table.{mostPlaces}
+use Rattle.places.specs.declared.Quad.{Quad}
+
+-- the places of a rule: none without tracking
+abbrev pub placesIn : Tracking → ℕ
+placesIn tracking.Unset = 0
+placesIn (tracking.Set m) = m .places
+
+-- its idle limit: without tracking no age is below it
+abbrev pub limitIn : Tracking → ℕ
+limitIn tracking.Unset = 0
+limitIn (tracking.Set m) = m .limit
+
+-- "an address and port quadruple repeats within one rule": the place at j repeats that of an earlier one
+abbrev pub repeats : List Place → ℕ → ℕ → Bool
+repeats ps j i = not (isFree (getD ps j free)) && holds (getD ps j free .quad) (getD ps i free)
+
+-- it repeats none of the earlier ones
+abbrev pub alone : List Place → ℕ → Bool
+alone ps j = allBelow (λ i. not (repeats ps j i)) j
+
+-- no place repeats another
+abbrev pub once : List Place → Bool
+once ps = allBelow (alone ps) (length ps)
+
+-- "an age is not below the idle limit"
+abbrev pub young : ℕ → Place → Bool
+young limit p = isFree p || ltb (p .age) limit
+
+-- what has no meaning yet is zero
+abbrev pub isNothing : Unused → Bool
+isNothing u =
+    every
+    (eqb (u .kind) 0
+    ∷ eqb (u .socket) 0
+    ∷ eqb (u .expected) 0
+    ∷ eqb (u .sourceHigh) 0
+    ∷ eqb (u .destinationHigh) 0
+    ∷ [])
+
+-- the addresses have 32 bits
+abbrev pub isIpv4 : Quad → Bool
+isIpv4 q = ltb (q .source) (2 ^ 32) && ltb (q .destination) (2 ^ 32)
+
+-- what words say of a held place as of a free one: nothing without a meaning, and IPv4 addresses
+abbrev pub isPlain : Place → Bool
+isPlain p = isNothing (p .unused) && isIpv4 (p .quad)
+
+-- the conversation and the age that a free place has in a fresh record
+abbrev pub isBlank : Place → Bool
+isBlank p = every (eqb (p .quad .source) 0 ∷ eqb (p .quad .destination) 0 ∷ eqb (p .quad .ports) 0 ∷ eqb (p .age) 0 ∷ [])
+
+-- words that are a record: nothing without a meaning, IPv4 addresses, and "a freed place is as in a fresh record"
+abbrev pub clean : Place → Bool
+clean p = isPlain p && (not (isFree p) || isBlank p)
+
+-- a place as in a fresh record
+abbrev pub isFresh : Place → Bool
+isFresh p = isFree p && clean p
+
+-- a place by itself, which the rule has (is) or has not
+abbrev pub placeGood : Bool → ℕ → Place → Bool
+placeGood is limit p = clean p && (isFree p || (is && ltb (p .age) limit))
+
+-- each place by itself, of which the rule has n
+abbrev pub eachGood : ℕ → ℕ → List Place → Bool
+eachGood n limit ps = allBelow (λ j. placeGood (ltb j n) limit (getD ps j free)) mostPlaces
+
+-- The tests of the places, of which the rule has n: "a conversation stands on a rule without tracking" (n is 0) "or in a place the rule doesn't have";
+-- "a quadruple repeats within one rule"; "an age is not below the idle limit"; words that are no record
+abbrev pub placesTests : ℕ → ℕ → List Place → List Bool
+placesTests n limit ps =
+    everyOf isFree (drop n ps)
+    ∷ once ps
+    ∷ everyOf (young limit) ps
+    ∷ everyOf clean ps
+    ∷ []
+
+-- the words of the places of a rule without tracking: all as in a fresh record
+abbrev pub isEmpty : List (List ℕ) → Bool
+isEmpty ps = every (placesTests 0 0 (placesOf ps))
+
+-- of the slot at k, where it is one from n on
+abbrev pub emptyFrom : ℕ → List (List (List ℕ)) → ℕ → Bool
+emptyFrom n all k = ltb k n || isEmpty (getD all k [])

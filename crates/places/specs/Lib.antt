@@ -1,0 +1,4 @@
+pub mod Places
+pub mod Ageing
+pub mod Good
+pub mod Stamps

@@ -1,0 +1,51 @@
+// The places of one rule for its conversations: their words, read and made, aged, tested. They are lent and changed in place.
+pub mod ageing;
+pub mod good;
+pub mod place;
+pub mod shape;
+mod stamps;
+
+use table::PLACES;
+use table::RULES;
+
+// The words of a place, from the lowest bit up, in bits. What has no meaning yet must be zero, or the record is bad.
+// 0: state 2 (0 free, 1 Opening, 2 Running, 3 Closing), kind 1 and socket 1 (no meaning yet), age in ms 60
+// 1: expected number 32 (no meaning yet), both ports 32
+// 2, 3: source address, its high 64 bits (no meaning yet) and its low 64; an IPv4 address stands in the low
+// 4, 5: destination address, likewise
+pub type PlaceWords = [u64; PLACE_WORDS];
+
+// The places of one rule, and those of all rules.
+pub type RulePlaces = [PlaceWords; PLACES];
+
+pub type AllPlaces = [RulePlaces; RULES];
+
+pub const PLACE_WORDS: usize = 6;
+
+// Where each word stands.
+pub const HELD: usize = 0;
+
+pub const BOTH_PORTS: usize = 1;
+
+pub(crate) const SOURCE_HIGH: usize = 2;
+
+pub const SOURCE: usize = 3;
+
+pub(crate) const DESTINATION_HIGH: usize = 4;
+
+pub const DESTINATION: usize = 5;
+
+// In word HELD the state stands below the kind, and kind and age count so much.
+pub const KIND_BIT: u64 = 4;
+
+pub(crate) const AGE_BIT: u64 = 16;
+
+// The weight of a word's upper half.
+pub(crate) const HALF: u64 = 4294967296;
+
+// A conversation: the addresses and both ports, source x 65,536 + destination, as this direction shows them.
+pub struct Quad {
+    pub source: u64,
+    pub destination: u64,
+    pub ports: u32,
+}

@@ -1,0 +1,74 @@
+-- Where no mark of a layer stands, none of its settings is set, and all its tests pass.
+-- Assumes nothing.
+use Prim.Native.Nat.{ℕ, _+_, _-_, _/_, _%_, _^_, _<_}
+use mathlib.Core.Path.{_≡_, sym, ap, _∙_}
+use mathlib.Core.List.{List}
+use mathlib.Core.Bool.{Bool, true, false}
+use native.Mathlib.Nat.{zero-div}
+use native.Mathlib.Omega.{arith}
+use borrow.Author.Tests.{eqb-true, ne-eqb}
+use lib.Dec.{eqb}
+use lib.Pow.{field, mod-mod-pow}
+use Rattle.numbers.specs.Lists.{leading}
+use Rattle.table.specs.Table.{marked}
+use Rattle.ranges.specs.Ranges.{linkTests, ipv4Tests, transportTests, rateTests, trackingTests}
+use Rattle.table.specs.Words.{
+  linkWord,
+  ipWord,
+  transportWord,
+  rateWord,
+  trackingWord,
+  word,
+  isSet,
+  setting8In,
+  setting16In,
+  setting32In,
+  setting64In,
+  kindSettingIn,
+  rangeIn,
+  prefixIn,
+  linkIn,
+  ipv4In,
+  transportIn,
+  rateIn,
+  trackingIn,
+}
+
+-- a number whose lowest byte is zero has no bit there
+no-bit : (n k : ℕ) → n % 2 ^ 8 ≡ 0 → k < 8 → n / 2 ^ k % 2 ≡ 0
+no-bit n k e h =
+    let f : 8 ≡ (8 - k) + k = omega arith in
+    let g : 8 - k ≡ (7 - k) + 1 = omega arith in
+    let upper : n / 2 ^ k % 2 ^ (8 - k) ≡ 0 = sym (field n (8 - k) k) ∙ ap (λ (x : ℕ). n % 2 ^ x / 2 ^ k) (sym f) ∙ ap (λ (x : ℕ). x / 2 ^ k) e ∙ zero-div (2 ^ k) in
+    sym (mod-mod-pow (n / 2 ^ k) (7 - k) 1) ∙ ap (λ (x : ℕ). n / 2 ^ k % 2 ^ x % 2) (sym g) ∙ ap (λ (x : ℕ). x % 2) upper
+
+module _ (w : List ℕ) where
+  -- no setting of a layer is set
+  none-set : (layer bit : ℕ) {b : Bool} → b ≡ eqb (word w layer % 256) 0 → b ≡ true → bit < 8 → isSet w layer bit ≡ false
+  unfolding marked
+  none-set layer bit e f h =
+      let z : word w layer / 2 ^ bit % 2 ≡ 0 = no-bit (word w layer) bit (eqb-true (word w layer % 256) 0 (sym e ∙ f)) h in
+      ne-eqb (word w layer / 2 ^ bit % 2) 1 (λ q. absurd (omega arith))
+
+  module _ {b : Bool} (f : b ≡ true) where
+    pub link-unset : b ≡ eqb (word w linkWord % 256) 0 → 5 ≡ leading (linkTests (linkIn w))
+    unfolding setting8In setting16In setting64In
+    link-unset e =
+        rw (none-set linkWord 0 e f (omega arith), none-set linkWord 1 e f (omega arith), none-set linkWord 2 e f (omega arith), none-set linkWord 3 e f (omega arith), none-set linkWord 4 e f (omega arith))
+
+    pub ipv4-unset : b ≡ eqb (word w ipWord % 256) 0 → 3 ≡ leading (ipv4Tests (ipv4In w))
+    unfolding setting8In prefixIn
+    ipv4-unset e = rw (none-set ipWord 0 e f (omega arith), none-set ipWord 1 e f (omega arith), none-set ipWord 2 e f (omega arith))
+
+    pub transport-unset : b ≡ eqb (word w transportWord % 256) 0 → 3 ≡ leading (transportTests (transportIn w))
+    unfolding kindSettingIn rangeIn
+    transport-unset e =
+        rw (none-set transportWord 0 e f (omega arith), none-set transportWord 1 e f (omega arith), none-set transportWord 2 e f (omega arith))
+
+    pub rate-unset : b ≡ eqb (word w rateWord % 256) 0 → 2 ≡ leading (rateTests (rateIn w))
+    unfolding setting16In
+    rate-unset e = rw (none-set rateWord 0 e f (omega arith), none-set rateWord 1 e f (omega arith))
+
+    pub tracking-unset : b ≡ eqb (word w trackingWord % 256) 0 → (may : Bool) → 2 ≡ leading (trackingTests (trackingIn w) may)
+    unfolding setting8In setting32In
+    tracking-unset e may = rw (none-set trackingWord 0 e f (omega arith), none-set trackingWord 1 e f (omega arith))

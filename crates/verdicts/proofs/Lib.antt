@@ -1,0 +1,4 @@
+pub mod RuleLaws
+pub mod ReactLaws
+pub mod GoodCode
+pub mod AgeLaws
