@@ -9,14 +9,15 @@ use native.Mathlib.Nat.{le-of-suc-le-suc, not-suc-le-zero}
 use native.Mathlib.Omega.{arith}
 use Rattle.numbers.specs.Lists.{firsts, copies}
 use Rattle.numbers.proofs.Lists.{length-copies}
-use Rattle.layers.specs.Inside.{Inside, TransportInside, SomeipInside}
+use Rattle.layers.specs.Inside.{Inside}
+use Rattle.payloads.specs.Inside.{TransportInside, SomeipInside}
 use Rattle.packets.specs.Inside.{IpInside}
 use Rattle.packets.specs.declared.Ip.{Ip}
 use Rattle.packets.specs.declared.Ip.the-variants as ip
-use Rattle.layers.specs.declared.Transport.{Transport}
-use Rattle.layers.specs.declared.Transport.the-variants as transport
-use Rattle.layers.specs.declared.Someip.{Someip}
-use Rattle.layers.specs.declared.Someip.the-variants as someip
+use Rattle.payloads.specs.declared.Transport.{Transport}
+use Rattle.payloads.specs.declared.Transport.the-variants as transport
+use Rattle.payloads.specs.declared.Someip.{Someip}
+use Rattle.payloads.specs.declared.Someip.the-variants as someip
 use Rattle.layers.specs.declared.Layers.{Layers}
 use Rattle.layers.specs.Seen.{seen}
 use Rattle.events.specs.Events.{array, ipv4Header, tcpHeader, udpHeader, someipHeader, numberOf, eventBytes}

@@ -4,10 +4,10 @@ use Prim.Native.Nat.{ℕ}
 use mathlib.Core.List.{List, _++_}
 use Rattle.packets.specs.declared.Ip.{Ip}
 use Rattle.packets.specs.declared.Ip.the-variants as ip
-use Rattle.layers.specs.declared.Transport.{Transport}
-use Rattle.layers.specs.declared.Transport.the-variants as transport
-use Rattle.layers.specs.declared.Someip.{Someip}
-use Rattle.layers.specs.declared.Someip.the-variants as someip
+use Rattle.payloads.specs.declared.Transport.{Transport}
+use Rattle.payloads.specs.declared.Transport.the-variants as transport
+use Rattle.payloads.specs.declared.Someip.{Someip}
+use Rattle.payloads.specs.declared.Someip.the-variants as someip
 use Rattle.layers.specs.declared.Layers.{Layers}
 use Rattle.events.specs.Events.{word16, part}
 use Rattle.events.specs.declared.Event.{Event}

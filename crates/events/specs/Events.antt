@@ -10,10 +10,10 @@ use lib.Dec.{eqb}
 use Rattle.numbers.specs.Lists.{copies}
 use Rattle.packets.specs.declared.Ip.{Ip}
 use Rattle.packets.specs.declared.Ip.the-variants as ip
-use Rattle.layers.specs.declared.Transport.{Transport}
-use Rattle.layers.specs.declared.Transport.the-variants as transport
-use Rattle.layers.specs.declared.Someip.{Someip}
-use Rattle.layers.specs.declared.Someip.the-variants as someip
+use Rattle.payloads.specs.declared.Transport.{Transport}
+use Rattle.payloads.specs.declared.Transport.the-variants as transport
+use Rattle.payloads.specs.declared.Someip.{Someip}
+use Rattle.payloads.specs.declared.Someip.the-variants as someip
 use Rattle.layers.specs.Seen.{Seen}
 use Rattle.table.specs.declared.Rule.{Rule}
 use Rattle.table.specs.Settings.{ofKind}

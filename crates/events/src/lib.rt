@@ -20,9 +20,9 @@ ghost use Rattle.events.specs.Arrays.{
   spanOf,
 };
 use layers::Layers;
-use layers::Someip;
-use layers::Transport;
 use packets::Ip;
+use payloads::Someip;
+use payloads::Transport;
 use table::settings::is_tcp;
 use table::words;
 use table::words::RuleWords;

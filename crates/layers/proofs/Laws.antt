@@ -1,47 +1,34 @@
 -- Laws of the definitions of specs/: what a caller knows of them without opening them.
 -- Assumes nothing.
-use Prim.Native.Nat.{ℕ, _+_, _*_, _≤_}
+use Prim.Native.Nat.{ℕ, _≤_}
 use mathlib.Core.Path.{_≡_, _∙_, ap, refl, sym, subst}
 use mathlib.Core.List.{List}
 use mathlib.Core.Bool.{Bool, true, false, cond, _&&_, _||_, false≢true, true≢false}
 use native.Mathlib.Omega.{arith}
 use lib.ListN.{length}
 use lib.Dec.{ltb}
-use borrow.Author.Tests.{ltb-false, leb-true}
-use Rattle.numbers.proofs.Lists.{cond-both, every-at}
+use borrow.Author.Tests.{ltb-false}
+use Rattle.numbers.proofs.Lists.{cond-both}
 use Rattle.packets.specs.Link.{linkBytes, taggedBytes, tagged, tagOf, linkOf}
 use Rattle.packets.specs.Ip.{ipOf}
+use Rattle.payloads.proofs.Laws.{transport-inside, someip-inside}
 use Rattle.packets.proofs.Laws.{ip-inside}
-use Rattle.layers.specs.Transport.{
-  tcpBytes,
-  leastOffset,
-  udpBytes,
-  unfragmented,
-  dataOffset,
-  tcpTests,
-  tcpHere,
-  udpTests,
-  udpHere,
-  segmentAt,
-  datagramAt,
-  transportAt,
-  transportOf,
-}
-use Rattle.layers.specs.Someip.{someipBytes, someipTests, someipHere, messageAt, someipAt, someipOf}
+use Rattle.payloads.specs.Transport.{transportOf}
+use Rattle.payloads.specs.Someip.{someipOf}
 use Rattle.layers.specs.Layers.{least, most, layersOf, tooShort, tooLong, refusalNumber, shownOf}
 use Rattle.packets.specs.Inside.{TagInside, PacketInside, IpInside}
-use Rattle.layers.specs.Inside.{SegmentInside, DatagramInside, TransportInside, MessageInside, SomeipInside, Inside}
+use Rattle.payloads.specs.Inside.{SegmentInside, DatagramInside, TransportInside, MessageInside, SomeipInside}
+use Rattle.layers.specs.Inside.{Inside}
 use Rattle.layers.specs.declared.FrameRefusal.the-variants as refusal
 use Rattle.packets.specs.declared.Link.{Link}
 use Rattle.packets.specs.declared.Packet.{Packet}
-use Rattle.packets.specs.declared.Ip.{Ip}
 use Rattle.packets.specs.declared.Ip.the-variants as ip
-use Rattle.layers.specs.declared.Segment.{Segment}
-use Rattle.layers.specs.declared.Datagram.{Datagram}
-use Rattle.layers.specs.declared.Transport.{Transport}
-use Rattle.layers.specs.declared.Transport.the-variants as transport
-use Rattle.layers.specs.declared.Message.{Message}
-use Rattle.layers.specs.declared.Someip.the-variants as someip
+use Rattle.payloads.specs.declared.Segment.{Segment}
+use Rattle.payloads.specs.declared.Datagram.{Datagram}
+use Rattle.payloads.specs.declared.Transport.{Transport}
+use Rattle.payloads.specs.declared.Transport.the-variants as transport
+use Rattle.payloads.specs.declared.Message.{Message}
+use Rattle.payloads.specs.declared.Someip.the-variants as someip
 use Rattle.layers.specs.declared.Layers.{Layers}
 use Rattle.layers.specs.declared.Shown.{Shown}
 use Rattle.layers.specs.declared.Shown.the-variants as shown
@@ -59,21 +46,6 @@ short-fits s e =
     let h = short-parts (ltb (length s) least) (tagged s) (ltb (length s) taggedBytes) e in
     (ltb-false _ _ (h .0), λ q. ltb-false _ _ (h .1 q))
 
-module _ (s : List ℕ) (protocol at len : ℕ) where
-  pub tcp-fits : tcpHere s protocol at len ≡ true → (tcpBytes ≤ len) × ((leastOffset ≤ dataOffset s at) × (4 * dataOffset s at ≤ len))
-  unfolding tcpHere tcpTests
-  tcp-fits e =
-      let ts = tcpTests s protocol at len in
-      (leb-true _ _ (every-at ts 1 e), (leb-true _ _ (every-at ts 2 e), leb-true _ _ (every-at ts 3 e)))
-
-  pub udp-fits : udpHere s protocol at len ≡ true → udpBytes ≤ len
-  unfolding udpHere udpTests
-  udp-fits e = leb-true _ _ (every-at (udpTests s protocol at len) 1 e)
-
-pub someip-fits : (s : List ℕ) (at len : ℕ) → someipHere s at len ≡ true → someipBytes ≤ len
-unfolding someipHere someipTests
-someip-fits s at len e = leb-true _ _ (every-at (someipTests s at len) 0 e)
-
 -- ---- each layer lies within the frame
 
 pub link-inside : (s : List ℕ) → tooShort s ≡ false → (linkOf s .hlen ≤ length s) × TagInside (linkOf s .tag)
@@ -82,38 +54,6 @@ link-inside s e =
     cond-both (λ (l : Link). (l .hlen ≤ length s) × TagInside (l .tag)) (tagged s) _ _
     (λ q. (short-fits s e .1 q, omega arith))
     (λ q. (short-fits s e .0, tt))
-
-at-inside : (s : List ℕ) (protocol at len : ℕ) → at + len ≤ length s → TransportInside s (transportAt s protocol at len)
-unfolding transportAt segmentAt datagramAt
-at-inside s protocol at len b =
-    cond-both (TransportInside s) (tcpHere s protocol at len) _ _
-    (λ h.
-    let f = tcp-fits s protocol at len h in
-    let w = f .1 .0 in
-    let l = f .1 .1 in
-    record { words = omega arith; header = omega arith })
-    (λ h. cond-both (TransportInside s) (udpHere s protocol at len) _ _
-    (λ k.
-    let l = udp-fits s protocol at len k in
-    record { joined = refl; payload = omega arith })
-    (λ k. tt))
-
-pub transport-inside : (s : List ℕ) (i : Ip) → IpInside s i → TransportInside s (transportOf s i)
-unfolding transportOf
-transport-inside s ip.Absent w = tt
-transport-inside s (ip.V4 p) w =
-    cond-both (TransportInside s) (unfragmented s (p .header)) _ _
-    (λ h. at-inside s (p .protocol) (p .payload) (p .plen) (w .payload))
-    (λ h. tt)
-
-pub someip-inside : (s : List ℕ) (t : Transport) → TransportInside s t → SomeipInside s (someipOf s t)
-unfolding someipOf someipAt messageAt
-someip-inside s transport.Absent w = tt
-someip-inside s (transport.Tcp t) w = tt
-someip-inside s (transport.Udp u) w =
-    cond-both (SomeipInside s) (someipHere s (u .payload) (u .plen)) _ _
-    (λ h. record { header = omega (arith, w .payload, someip-fits s (u .payload) (u .plen) h) })
-    (λ h. tt)
 
 over : (s : List ℕ) (m : Message) (t : Transport) → someipOf s t ≡ someip.Present m → (u : Datagram) × (t ≡ transport.Udp u)
 unfolding someipOf

@@ -1,4 +1,2 @@
 pub mod Laws
-pub mod OnTransport
-pub mod OnSomeip
 pub mod OnFrame

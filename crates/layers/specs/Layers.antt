@@ -7,8 +7,8 @@ use lib.ListN.{length}
 use lib.Dec.{ltb}
 use Rattle.packets.specs.Link.{taggedBytes, tagged, linkOf}
 use Rattle.packets.specs.Ip.{ipOf}
-use Rattle.layers.specs.Transport.{transportOf}
-use Rattle.layers.specs.Someip.{someipOf}
+use Rattle.payloads.specs.Transport.{transportOf}
+use Rattle.payloads.specs.Someip.{someipOf}
 use Rattle.layers.specs.declared.Layers.{Layers}
 use Rattle.layers.specs.declared.FrameRefusal.{FrameRefusal}
 use Rattle.layers.specs.declared.FrameRefusal.the-variants as refusal

@@ -1,5 +1,3 @@
-pub mod Transport
-pub mod Someip
 pub mod Layers
 pub mod Inside
 pub mod Seen

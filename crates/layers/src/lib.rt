@@ -2,63 +2,21 @@
 ghost use mathlib.Core.Path.{_≡_};
 ghost use mathlib.Core.Bool.{false};
 ghost use Rattle.layers.specs.Layers.{layersOf, tooShort, refusalNumber, shownOf};
-
-mod someip_layer;
-mod transport_layer;
-
-use crate::someip_layer::read_someip;
-use crate::transport_layer::read_transport;
 use packets::Ip;
 use packets::Link;
 use packets::ip_layer::read_ip;
 use packets::link_layer::TAGGED_BYTES;
 use packets::link_layer::is_tagged;
 use packets::link_layer::read_link;
+use payloads::Someip;
+use payloads::Transport;
+use payloads::someip_layer::read_someip;
+use payloads::transport_layer::read_transport;
 
 // The bytes of a frame, without its check sequence.
 const LEAST: usize = 14;
 
 const MOST: usize = 1518;
-
-// Header and payload count from the frame's start; hlen and plen are their lengths.
-pub struct Segment {
-    pub source: u16,
-    pub destination: u16,
-    pub fin: bool,
-    pub syn: bool,
-    pub rst: bool,
-    pub ack: bool,
-    pub header: usize,
-    pub hlen: usize,
-}
-
-pub struct Datagram {
-    pub source: u16,
-    pub destination: u16,
-    pub header: usize,
-    pub payload: usize,
-    pub plen: usize,
-}
-
-pub enum Transport {
-    Absent,
-    Tcp(Segment),
-    Udp(Datagram),
-}
-
-pub struct Message {
-    pub service: u16,
-    pub method: u16,
-    pub version: u8,
-    pub kind: u8,
-    pub code: u8,
-    pub header: usize,
-}
-
-pub enum Someip {
-    Absent,
-    Present(Message),
-}
 
 pub struct Layers {
     pub link: Link,
@@ -122,8 +80,8 @@ fn is_short(s: &[u8]) -> bool
 }
 
 /// What a frame shows, for any product. Takes the frame's bytes, without their check sequence, and asks nothing of them. Answers a refusal
-/// or the layers, `Absent` for each that the frame lacks; it keeps nothing and changes nothing. Link and IP are types of `packets`, so a
-/// product names both crates. Every offset in the answer counts from the frame's start and lies, with its length, inside the frame
+/// or the layers, `Absent` for each that the frame lacks; it keeps nothing and changes nothing. Link and IP are types of
+/// `packets`, transport and SOME/IP of `payloads`, so a product names those too. Every offset in the answer counts from the frame's start and lies, with its length, inside the frame
 /// (specs/Inside here and in `packets`; laws `shows-inside`, `packet-inside` and its like of proofs/Laws). An IPv4 header's time to live, or 0:
 ///
 ///     let Shown::Shows(shown) = layers::read(frame) else { return 0; };

@@ -10,13 +10,13 @@ use Rattle.numbers.proofs.Lists.{and-both, and-true-true}
 use Rattle.packets.specs.declared.Packet.{Packet}
 use Rattle.packets.specs.declared.Ip.{Ip}
 use Rattle.packets.specs.declared.Ip.the-variants as ip
-use Rattle.layers.specs.declared.Segment.{Segment}
-use Rattle.layers.specs.declared.Datagram.{Datagram}
-use Rattle.layers.specs.declared.Transport.{Transport}
-use Rattle.layers.specs.declared.Transport.the-variants as transport
-use Rattle.layers.specs.declared.Message.{Message}
-use Rattle.layers.specs.declared.Someip.{Someip}
-use Rattle.layers.specs.declared.Someip.the-variants as someip
+use Rattle.payloads.specs.declared.Segment.{Segment}
+use Rattle.payloads.specs.declared.Datagram.{Datagram}
+use Rattle.payloads.specs.declared.Transport.{Transport}
+use Rattle.payloads.specs.declared.Transport.the-variants as transport
+use Rattle.payloads.specs.declared.Message.{Message}
+use Rattle.payloads.specs.declared.Someip.{Someip}
+use Rattle.payloads.specs.declared.Someip.the-variants as someip
 use Rattle.table.specs.declared.Kind.{Kind}
 use Rattle.table.specs.declared.Kind.the-variants as kind
 use Rattle.table.specs.declared.Ipv4Settings.{Ipv4Settings}

@@ -11,11 +11,11 @@ use Rattle.packets.specs.declared.Tag.the-variants as tag
 use Rattle.packets.specs.declared.Link.{Link}
 use Rattle.packets.specs.declared.Ip.{Ip}
 use Rattle.packets.specs.declared.Ip.the-variants as ip
-use Rattle.layers.specs.declared.Transport.{Transport}
-use Rattle.layers.specs.declared.Transport.the-variants as transport
-use Rattle.layers.specs.declared.Message.{Message}
-use Rattle.layers.specs.declared.Someip.{Someip}
-use Rattle.layers.specs.declared.Someip.the-variants as someip
+use Rattle.payloads.specs.declared.Transport.{Transport}
+use Rattle.payloads.specs.declared.Transport.the-variants as transport
+use Rattle.payloads.specs.declared.Message.{Message}
+use Rattle.payloads.specs.declared.Someip.{Someip}
+use Rattle.payloads.specs.declared.Someip.the-variants as someip
 use Rattle.layers.specs.Seen.{Seen}
 use Rattle.table.specs.declared.Kind.{Kind}
 use Rattle.table.specs.declared.Kind.the-variants as kind

@@ -2,5 +2,3 @@ pub mod PlaceLaws
 pub mod AgeingLaws
 pub mod HoldLaws
 pub mod PlacesLaws
-pub mod GoodCode
-pub mod StampLaws

@@ -1,4 +1,3 @@
 pub mod Places
 pub mod Ageing
 pub mod Good
-pub mod Stamps

@@ -1,9 +1,7 @@
 // The places of one rule for its conversations: their words, read and made, aged, tested. They are lent and changed in place.
 pub mod ageing;
-pub mod good;
 pub mod place;
 pub mod shape;
-mod stamps;
 
 use table::PLACES;
 use table::RULES;
@@ -27,21 +25,21 @@ pub const HELD: usize = 0;
 
 pub const BOTH_PORTS: usize = 1;
 
-pub(crate) const SOURCE_HIGH: usize = 2;
+pub const SOURCE_HIGH: usize = 2;
 
 pub const SOURCE: usize = 3;
 
-pub(crate) const DESTINATION_HIGH: usize = 4;
+pub const DESTINATION_HIGH: usize = 4;
 
 pub const DESTINATION: usize = 5;
 
 // In word HELD the state stands below the kind, and kind and age count so much.
 pub const KIND_BIT: u64 = 4;
 
-pub(crate) const AGE_BIT: u64 = 16;
+pub const AGE_BIT: u64 = 16;
 
 // The weight of a word's upper half.
-pub(crate) const HALF: u64 = 4294967296;
+pub const HALF: u64 = 4294967296;
 
 // A conversation: the addresses and both ports, source x 65,536 + destination, as this direction shows them.
 pub struct Quad {

@@ -78,7 +78,7 @@ pub fn place_words(q: Quad, f: Phase, age: u32) -> PlaceWords
 }
 
 // The ports differ most often, so they are compared first.
-pub(crate) fn is_held_by(q: Quad, p: &PlaceWords) -> bool
+pub fn is_held_by(q: Quad, p: &PlaceWords) -> bool
     ensures { λ r. ⌜ r ≡ holds q (placeOf (now (p .entry))) ⌝ }
 {
     if q.ports == high32(p[BOTH_PORTS]) {

@@ -5,11 +5,11 @@ ghost use Rattle.table.specs.Table.{mostRules, mostPlaces};
 ghost use Rattle.places.specs.Places.{placeSize};
 use crate::*;
 
-pub(crate) fn tell_place(w: PlaceWords)
+pub fn tell_place(w: PlaceWords)
     ensures { λ r. ⌜ length w ≡ placeSize ⌝ }
 {}
 
-pub(crate) fn tell_all(w: AllPlaces)
+pub fn tell_all(w: AllPlaces)
     ensures { λ r. ⌜ length w ≡ mostRules ⌝ }
 {}
 

@@ -8,7 +8,7 @@ ghost use Rattle.records.specs.Records.{ruleRecords, recordsOf, before};
 ghost use Rattle.records.specs.Good.{levelFrom, slotsGood, rulesGood, recordsGood};
 use crate::shape::*;
 use crate::*;
-use places::good::good_beyond;
+use goodness::good_beyond;
 use table::Bucket;
 use table::RULES;
 use table::words;

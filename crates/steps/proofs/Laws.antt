@@ -13,9 +13,9 @@ use Rattle.numbers.proofs.Lists.{cond-both, first-before}
 use Rattle.packets.specs.declared.Ip.{Ip}
 use Rattle.packets.specs.declared.Ip.the-variants as ip
 use Rattle.packets.specs.declared.Packet.{Packet}
-use Rattle.layers.specs.declared.Segment.{Segment}
-use Rattle.layers.specs.declared.Transport.{Transport}
-use Rattle.layers.specs.declared.Transport.the-variants as transport
+use Rattle.payloads.specs.declared.Segment.{Segment}
+use Rattle.payloads.specs.declared.Transport.{Transport}
+use Rattle.payloads.specs.declared.Transport.the-variants as transport
 use Rattle.layers.specs.declared.Layers.{Layers}
 use Rattle.layers.specs.Seen.{Seen}
 use Rattle.layers.specs.declared.Shown.the-variants as shown

@@ -8,8 +8,8 @@ use lib.ListN.{length}
 use lib.Dec.{ltb, eqb}
 use Rattle.packets.specs.declared.Ip.{Ip}
 use Rattle.packets.specs.declared.Ip.the-variants as ip
-use Rattle.layers.specs.declared.Transport.{Transport}
-use Rattle.layers.specs.declared.Transport.the-variants as transport
+use Rattle.payloads.specs.declared.Transport.{Transport}
+use Rattle.payloads.specs.declared.Transport.the-variants as transport
 use Rattle.layers.specs.declared.Shown.the-variants as shown
 use Rattle.layers.specs.Layers.{shownOf}
 use Rattle.layers.specs.declared.Layers.{Layers}

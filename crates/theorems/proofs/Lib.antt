@@ -6,4 +6,3 @@ pub mod Counts
 pub mod Clock
 pub mod Passes
 pub mod Same
-pub mod Worked

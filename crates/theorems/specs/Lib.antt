@@ -3,4 +3,3 @@ pub mod Statements
 pub mod Clock
 pub mod Passes
 pub mod Unique
-pub mod Worked

@@ -1,0 +1,308 @@
+-- Laws of good places in the words of the code's branches.
+-- Assumes nothing.
+use Prim.Native.Nat.{ℕ, _/_, _%_, _^_, _<_, _≤_}
+use mathlib.Core.Path.{_≡_, refl, sym, ap, subst, _∙_}
+use mathlib.Core.Bool.{Bool, true, false, not, _&&_, _||_, false≢true}
+use mathlib.Core.List.{List, [], _∷_}
+use lib.ListN.{length, getD, List·getD-eq-default}
+use lib.Bits.{bitOr, or-add-and, and-le-l, and-le-r}
+use lib.Dec.{ltb, eqb}
+use native.Mathlib.Nat.{div-div-eq-div-mul}
+use native.Mathlib.Omega.{arith}
+use borrow.Author.Tests.{lt-ltb, le-ltb, ltb-true, eq-eqb, ne-eqb, eqb-true}
+use Rattle.numbers.specs.Lists.{every, allBelow}
+use Rattle.numbers.proofs.Lists.{and-both, and-true-true, every-at, below-at, below-all}
+use Rattle.places.specs.Places.{Place, free, isFree, placeOf, placesOf, holds}
+use Rattle.places.specs.Good.{isNothing, isIpv4, isPlain, isBlank, clean, isFresh, placeGood, eachGood, repeats, alone, once, placesTests}
+use Rattle.places.specs.Good as laws
+use Rattle.places.specs.declared.Quad.{Quad}
+use Rattle.numbers.proofs.Tests.{by-test, by-less, or-first, or-second, or-rest, both-ways}
+use Rattle.places.proofs.PlaceLaws.{place-at}
+use Rattle.places.proofs.HoldLaws.{free-holds}
+use Rattle.places.proofs.PlacesLaws.{at, once-single, PlacesGood, places-in, places-out}
+
+-- ---- tests
+
+swap-free : (f c x : Bool) → f ≡ true → (f && c) ≡ (c && (f || x))
+swap-free true true x e = refl
+swap-free true false x e = refl
+swap-free false c x e = absurd (false≢true e)
+
+not-held : (f c x : Bool) → f ≡ false → x ≡ false → false ≡ (c && (f || x))
+not-held f true x e d = sym (rw (e, d))
+not-held f false x e d = refl
+
+held-plain : (f p b i y : Bool) → f ≡ false → i ≡ true → y ≡ true → p ≡ ((p && (not f || b)) && (f || (i && y)))
+held-plain f true b i y e d h = sym (rw (e, d, h))
+held-plain f false b i y e d h = refl
+
+-- ---- one place
+
+-- and none of both
+or-none : (x y : ℕ) → bitOr x y ≡ 0 → (x ≡ 0) × (y ≡ 0)
+or-none x y z = (omega (arith, z, or-add-and x y, and-le-r x y), omega (arith, z, or-add-and x y, and-le-l x y))
+
+none-or : (x y : ℕ) → x ≡ 0 → y ≡ 0 → bitOr x y ≡ 0
+none-or x y a b = omega (arith, or-add-and x y)
+
+no-bits : (n : ℕ) → n % 2 ≡ 0 → n / 2 % 2 ≡ 0 → n % 4 ≡ 0
+no-bits n a b = omega arith
+
+module _ (w : List ℕ) where
+  abbrev plain : Bool
+  plain = isPlain (placeOf w)
+
+  -- what has no meaning yet, as the code looks at it
+  record Plain : Type 0 where
+    pub held : getD w 0 0 / 4 % 4 ≡ 0
+    pub expected : getD w 1 0 % 2 ^ 32 ≡ 0
+    pub sourceHigh : getD w 2 0 ≡ 0
+    pub destinationHigh : getD w 4 0 ≡ 0
+    pub source : getD w 3 0 / 2 ^ 32 ≡ 0
+    pub destination : getD w 5 0 / 2 ^ 32 ≡ 0
+
+  plain-in : plain ≡ true → Plain
+  plain-in e =
+      let a = and-both (isNothing (placeOf w .unused)) (isIpv4 (placeOf w .quad)) e in
+      let b = and-both (ltb (getD w 3 0) (2 ^ 32)) (ltb (getD w 5 0) (2 ^ 32)) (a .1) in
+      let k = eqb-true (getD w 0 0 / 4 % 2) 0 (every-at tests 0 (a .0)) in
+      let o = eqb-true (getD w 0 0 / 8 % 2) 0 (every-at tests 1 (a .0)) in
+      record {
+        held = no-bits (getD w 0 0 / 4) k (ap (λ (n : ℕ). n % 2) (div-div-eq-div-mul (getD w 0 0) 4 2) ∙ o);
+        expected = eqb-true (getD w 1 0 % 2 ^ 32) 0 (every-at tests 2 (a .0));
+        sourceHigh = eqb-true (getD w 2 0) 0 (every-at tests 3 (a .0));
+        destinationHigh = eqb-true (getD w 4 0) 0 (every-at tests 4 (a .0));
+        source = omega (arith, ltb-true (getD w 3 0) (2 ^ 32) (b .0));
+        destination = omega (arith, ltb-true (getD w 5 0) (2 ^ 32) (b .1));
+      }
+    where
+      tests : List Bool
+      tests =
+          eqb (getD w 0 0 / 4 % 2) 0
+          ∷ eqb (getD w 0 0 / 8 % 2) 0
+          ∷ eqb (getD w 1 0 % 2 ^ 32) 0
+          ∷ eqb (getD w 2 0) 0
+          ∷ eqb (getD w 4 0) 0
+          ∷ []
+
+  plain-out : Plain → plain ≡ true
+  plain-out p =
+      let h = p .held in
+      let s = p .source in
+      let d = p .destination in
+      and-true-true
+      (and-true-true (eq-eqb (getD w 0 0 / 4 % 2) 0 (omega arith))
+      (and-true-true (eq-eqb (getD w 0 0 / 8 % 2) 0 (omega arith))
+      (and-true-true (eq-eqb (getD w 1 0 % 2 ^ 32) 0 (p .expected))
+      (and-true-true (eq-eqb (getD w 2 0) 0 (p .sourceHigh)) (and-true-true (eq-eqb (getD w 4 0) 0 (p .destinationHigh)) refl)))))
+      (and-true-true (lt-ltb (getD w 3 0) (2 ^ 32) (omega arith)) (lt-ltb (getD w 5 0) (2 ^ 32) (omega arith)))
+
+  pub plain-held : (getD w 0 0 / 4 % 4 ≡ 0 → ⊥) → false ≡ plain
+  plain-held n = by-test plain (λ e. absurd (n (plain-in e .held))) (λ e. sym e)
+
+  pub plain-expected : (getD w 1 0 % 2 ^ 32 ≡ 0 → ⊥) → false ≡ plain
+  plain-expected n = by-test plain (λ e. absurd (n (plain-in e .expected))) (λ e. sym e)
+
+  pub plain-words : getD w 0 0 / 4 % 4 ≡ 0 → getD w 1 0 % 2 ^ 32 ≡ 0
+      → eqb (bitOr (bitOr (getD w 2 0) (getD w 4 0)) (bitOr (getD w 3 0 / 2 ^ 32) (getD w 5 0 / 2 ^ 32))) 0 ≡ plain
+  plain-words h x =
+      both-ways (eqb (bitOr (bitOr (getD w 2 0) (getD w 4 0)) (bitOr (getD w 3 0 / 2 ^ 32) (getD w 5 0 / 2 ^ 32))) 0) plain
+      (λ e.
+      let a = or-none (bitOr (getD w 2 0) (getD w 4 0)) (bitOr (getD w 3 0 / 2 ^ 32) (getD w 5 0 / 2 ^ 32)) (eqb-true _ 0 e) in
+      let b = or-none (getD w 2 0) (getD w 4 0) (a .0) in
+      let c = or-none (getD w 3 0 / 2 ^ 32) (getD w 5 0 / 2 ^ 32) (a .1) in
+      plain-out (record { held = h; expected = x; sourceHigh = b .0; destinationHigh = b .1; source = c .0; destination = c .1 }))
+      (λ e.
+      let p = plain-in e in
+      eq-eqb (bitOr (bitOr (getD w 2 0) (getD w 4 0)) (bitOr (getD w 3 0 / 2 ^ 32) (getD w 5 0 / 2 ^ 32))) 0
+      (none-or _ _ (none-or _ _ (p .sourceHigh) (p .destinationHigh)) (none-or _ _ (p .source) (p .destination))))
+
+  -- as in a fresh record: six words are zero
+  abbrev fresh : Bool
+  fresh = isFresh (placeOf w)
+
+  abbrev all : ℕ
+  all = bitOr (bitOr (bitOr (bitOr (bitOr (getD w 0 0) (getD w 1 0)) (getD w 2 0)) (getD w 3 0)) (getD w 4 0)) (getD w 5 0)
+
+  zero-fresh : all ≡ 0 → fresh ≡ true
+  zero-fresh z =
+      let a = or-none _ (getD w 5 0) z in
+      let b = or-none _ (getD w 4 0) (a .0) in
+      let c = or-none _ (getD w 3 0) (b .0) in
+      let d = or-none _ (getD w 2 0) (c .0) in
+      let e = or-none (getD w 0 0) (getD w 1 0) (d .0) in
+      let x = e .0 in
+      let y = e .1 in
+      let s = c .1 in
+      let t = a .1 in
+      let p = plain-out (record { held = omega arith; expected = omega arith; sourceHigh = d .1; destinationHigh = b .1; source = omega arith; destination = omega arith }) in
+      and-true-true (eq-eqb (getD w 0 0 % 4) 0 (omega arith))
+      (and-true-true p
+      (or-second (not (isFree (placeOf w))) (isBlank (placeOf w))
+      (and-true-true (eq-eqb (getD w 3 0) 0 s)
+      (and-true-true (eq-eqb (getD w 5 0) 0 t)
+      (and-true-true (eq-eqb (getD w 1 0 / 2 ^ 32) 0 (omega arith)) (and-true-true (eq-eqb (getD w 0 0 / 16) 0 (omega arith)) refl))))))
+
+  fresh-zero : fresh ≡ true → all ≡ 0
+  fresh-zero h =
+      let f = and-both (isFree (placeOf w)) (clean (placeOf w)) h in
+      let d = and-both (isPlain (placeOf w)) (not (isFree (placeOf w)) || isBlank (placeOf w)) (f .1) in
+      let p = plain-in (d .0) in
+      let b = or-rest (not (isFree (placeOf w))) (isBlank (placeOf w)) (d .1) (ap not (f .0)) in
+      let s = eqb-true (getD w 0 0 % 4) 0 (f .0) in
+      let k = p .held in
+      let x = p .expected in
+      let y = eqb-true (getD w 1 0 / 2 ^ 32) 0 (every-at blanks 2 b) in
+      let a = eqb-true (getD w 0 0 / 16) 0 (every-at blanks 3 b) in
+      none-or _ _
+      (none-or _ _
+      (none-or _ _ (none-or _ _ (none-or (getD w 0 0) (getD w 1 0) (omega arith) (omega arith)) (p .sourceHigh)) (eqb-true (getD w 3 0) 0 (every-at blanks 0 b)))
+      (p .destinationHigh))
+      (eqb-true (getD w 5 0) 0 (every-at blanks 1 b))
+    where
+      blanks : List Bool
+      blanks = eqb (getD w 3 0) 0 ∷ eqb (getD w 5 0) 0 ∷ eqb (getD w 1 0 / 2 ^ 32) 0 ∷ eqb (getD w 0 0 / 16) 0 ∷ []
+
+  pub filled-words : eqb all 0 ≡ fresh
+  filled-words = both-ways (eqb all 0) fresh (λ e. zero-fresh (eqb-true all 0 e)) (λ e. eq-eqb all 0 (fresh-zero e))
+
+  -- what is tested at one place
+  abbrev good : Bool → ℕ → Bool
+  good is limit = placeGood is limit (placeOf w)
+
+  pub free-good : (is : Bool) (limit : ℕ) → getD w 0 0 % 4 ≡ 0 → fresh ≡ good is limit
+  free-good is limit z = swap-free (isFree (placeOf w)) (clean (placeOf w)) (is && ltb (getD w 0 0 / 16) limit) (eq-eqb (getD w 0 0 % 4) 0 z)
+
+  pub held-beyond : (is : Bool) (limit : ℕ) → (getD w 0 0 % 4 ≡ 0 → ⊥) → is ≡ false → false ≡ good is limit
+  held-beyond is limit z e = not-held (isFree (placeOf w)) (clean (placeOf w)) _ (ne-eqb (getD w 0 0 % 4) 0 z) (rw e)
+
+  pub held-old : (is : Bool) (limit : ℕ) → (getD w 0 0 % 4 ≡ 0 → ⊥) → is ≡ true → limit ≤ getD w 0 0 / 16 → false ≡ good is limit
+  held-old is limit z e h =
+      not-held (isFree (placeOf w)) (clean (placeOf w)) _ (ne-eqb (getD w 0 0 % 4) 0 z) (rw (e, le-ltb (getD w 0 0 / 16) limit h))
+
+  pub held-good : (is : Bool) (limit : ℕ) → (getD w 0 0 % 4 ≡ 0 → ⊥) → is ≡ true → getD w 0 0 / 16 < limit → plain ≡ good is limit
+  held-good is limit z e h =
+      held-plain (isFree (placeOf w)) plain (isBlank (placeOf w)) is (ltb (getD w 0 0 / 16) limit)
+      (ne-eqb (getD w 0 0 % 4) 0 z) e (lt-ltb (getD w 0 0 / 16) limit h)
+
+-- ---- the earlier places
+
+module _ (ws : List (List ℕ)) (j : ℕ) where
+  pub repeats-free : getD (getD ws j []) 0 0 % 4 ≡ 0 → true ≡ alone (placesOf ws) j
+  repeats-free z =
+      sym
+      (below-all (λ i. not (repeats (placesOf ws) j i)) j
+      (λ i m. ap (λ (b : Bool). not (not b && holds (at (placesOf ws) j .quad) (at (placesOf ws) i))) (ap isFree (place-at ws j) ∙ eq-eqb _ _ z)))
+
+  pub repeats-is : (i : ℕ) (q : Quad) (b : Bool) → (getD (getD ws j []) 0 0 % 4 ≡ 0 → ⊥) → q ≡ placeOf (getD ws j []) .quad
+      → holds q (placeOf (getD ws i [])) ≡ b → not (repeats (placesOf ws) j i) ≡ not b
+  repeats-is i q b z e h =
+      ap (λ (p : Place). not (not (isFree p) && holds (p .quad) (at (placesOf ws) i))) (place-at ws j)
+      ∙ ap (λ (p : Place). not (not (isFree (placeOf (getD ws j []))) && holds (placeOf (getD ws j []) .quad) p)) (place-at ws i)
+      ∙ ap (λ (f : Bool). not (not f && holds (placeOf (getD ws j []) .quad) (placeOf (getD ws i [])))) (ne-eqb (getD (getD ws j []) 0 0 % 4) 0 z)
+      ∙ ap (λ (x : Quad). not (holds x (placeOf (getD ws i [])))) (sym e)
+      ∙ ap not h
+
+-- ---- the places of a rule
+
+module _ (n limit : ℕ) (ps : List Place) (many : length ps ≡ 8) where
+  tests-in : every (placesTests n limit ps) ≡ true → PlacesGood n limit ps
+  tests-in e =
+      places-in n limit ps (every-at (placesTests n limit ps) 0 e) (every-at (placesTests n limit ps) 1 e) (every-at (placesTests n limit ps) 2 e)
+      (every-at (placesTests n limit ps) 3 e)
+
+  tests-out : PlacesGood n limit ps → every (placesTests n limit ps) ≡ true
+  tests-out g =
+      let t = places-out n limit ps g in
+      and-true-true (t .spare) (and-true-true (t .single) (and-true-true (t .young) (and-true-true (t .clean) refl)))
+
+  everywhere : (P : Place → Type 0) → P free → ((i : ℕ) → i < 8 → P (at ps i)) → (i : ℕ) → P (at ps i)
+  everywhere P f h i = by-less i 8 (h i) (λ m. subst P (sym (List·getD-eq-default ps free (omega arith))) f)
+
+  -- what is tested at one place
+  abbrev goodAt : ℕ → Bool
+  goodAt j = placeGood (ltb j n) limit (at ps j)
+
+  place-in : PlacesGood n limit ps → (j : ℕ) → goodAt j ≡ true
+  place-in g j =
+      and-true-true (g .clean j)
+      (by-test (isFree (at ps j)) (or-first (isFree (at ps j)) _)
+      (λ e. or-second (isFree (at ps j)) _ (and-true-true (within e) (or-rest (isFree (at ps j)) (ltb (at ps j .age) limit) (g .young j) e))))
+    where
+      within : isFree (at ps j) ≡ false → ltb j n ≡ true
+      within e = by-less j n (lt-ltb j n) (λ k. absurd (false≢true (sym e ∙ g .spare j k)))
+
+  place-out : eachGood n limit ps ≡ true → once ps ≡ true → PlacesGood n limit ps
+  place-out h o = record {
+    spare = λ i k. by-less i 8 (spare i k) (λ m. ap isFree (List·getD-eq-default ps free (omega arith)));
+    single = once-single ps o;
+    young = everywhere (λ p. laws.young limit p ≡ true) refl young;
+    clean = everywhere (λ p. clean p ≡ true) refl (λ i m. and-both (clean (at ps i)) _ (tests i m) .0);
+  }
+    where
+      tests : (j : ℕ) → j < 8 → goodAt j ≡ true
+      tests j m = below-at goodAt 8 j h m
+
+      held : (j : ℕ) → j < 8 → isFree (at ps j) ≡ false → (ltb j n ≡ true) × (ltb (at ps j .age) limit ≡ true)
+      held j m e = and-both _ _ (or-rest (isFree (at ps j)) _ (and-both (clean (at ps j)) _ (tests j m) .1) e)
+
+      spare : (i : ℕ) → n ≤ i → i < 8 → isFree (at ps i) ≡ true
+      spare i k m = by-test (isFree (at ps i)) (λ e. e) (λ e. absurd (false≢true (sym (le-ltb i n k) ∙ held i m e .0)))
+
+      young : (i : ℕ) → i < 8 → laws.young limit (at ps i) ≡ true
+      young i m = by-test (isFree (at ps i)) (or-first (isFree (at ps i)) _) (λ e. or-second (isFree (at ps i)) _ (held i m e .1))
+
+  -- the branches: a place fails by itself, or all pass and are told apart
+  pub room-no : eachGood n limit ps ≡ false → false ≡ every (placesTests n limit ps)
+  room-no f =
+      by-test (every (placesTests n limit ps))
+      (λ e. absurd (false≢true (sym f ∙ below-all goodAt 8 (λ j m. place-in (tests-in e) j))))
+      (λ e. sym e)
+
+  pub room-yes : eachGood n limit ps ≡ true → once ps ≡ every (placesTests n limit ps)
+  room-yes h =
+      both-ways (once ps) (every (placesTests n limit ps)) (λ o. tests-out (place-out h o))
+      (λ e. places-out n limit ps (tests-in e) .single)
+
+-- places as in a fresh record are good for every rule
+pub room-empty : (n limit : ℕ) (ps : List Place) → length ps ≡ 8 → every (placesTests 0 0 ps) ≡ true → true ≡ every (placesTests n limit ps)
+room-empty n limit ps k e =
+    let g = tests-in 0 0 ps k e in
+    sym
+    (tests-out n limit ps k
+    (record {
+      spare = λ i m. g .spare i (omega arith);
+      single = g .single;
+      young = λ i. or-first (isFree (at ps i)) _ (g .spare i (omega arith));
+      clean = g .clean;
+    }))
+
+-- the code's test of one place
+pub each-turn :
+    (n k limit : ℕ) (ws : List (List ℕ)) (j : ℕ) (a : Bool) → k ≡ n → a ≡ placeGood (ltb j k) limit (placeOf (getD ws j []))
+    → a ≡ placeGood (ltb j n) limit (at (placesOf ws) j)
+each-turn n k limit ws j a e f =
+    f
+    ∙ ap (λ (k : ℕ). placeGood (ltb j k) limit (placeOf (getD ws j []))) e
+    ∙ ap (λ (p : Place). placeGood (ltb j n) limit p) (sym (place-at ws j))
+
+-- ---- a rule without tracking
+
+abbrev pub freshAt : List Place → ℕ → Bool
+freshAt ps j = isFresh (at ps j)
+
+pub empty-is : (ps : List Place) → length ps ≡ 8 → allBelow (freshAt ps) 8 ≡ every (placesTests 0 0 ps)
+empty-is ps n =
+    both-ways (allBelow (freshAt ps) 8) (every (placesTests 0 0 ps)) (λ h. tests-out 0 0 ps n (good h))
+    (λ e. below-all (freshAt ps) 8 (λ j m. let g = tests-in 0 0 ps n e in and-true-true (g .spare j (omega arith)) (g .clean j)))
+  where
+    good : allBelow (freshAt ps) 8 ≡ true → PlacesGood 0 0 ps
+    good h =
+        let f : (i : ℕ) → isFree (at ps i) ≡ true =
+        everywhere 0 0 ps n (λ p. isFree p ≡ true) refl (λ i m. and-both (isFree (at ps i)) _ (below-at (freshAt ps) 8 i h m) .0) in
+        record {
+          spare = λ i k. f i;
+          single = λ q i j a b. absurd (false≢true (sym (free-holds q (at ps i) (f i)) ∙ a));
+          young = λ i. or-first (isFree (at ps i)) _ (f i);
+          clean = everywhere 0 0 ps n (λ p. clean p ≡ true) refl (λ i m. and-both (isFree (at ps i)) _ (below-at (freshAt ps) 8 i h m) .1);
+        }

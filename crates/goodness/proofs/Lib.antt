@@ -1,0 +1,2 @@
+pub mod GoodCode
+pub mod StampLaws

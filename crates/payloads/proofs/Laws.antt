@@ -1,0 +1,83 @@
+-- Laws of the definitions of specs/: what a caller knows of them without opening them.
+-- Assumes nothing.
+use Prim.Native.Nat.{ℕ, _+_, _*_, _≤_}
+use mathlib.Core.Path.{_≡_, refl}
+use mathlib.Core.List.{List}
+use mathlib.Core.Bool.{true}
+use native.Mathlib.Omega.{arith}
+use lib.ListN.{length}
+use borrow.Author.Tests.{leb-true}
+use Rattle.numbers.proofs.Lists.{cond-both, every-at}
+use Rattle.payloads.specs.Transport.{
+  tcpBytes,
+  leastOffset,
+  udpBytes,
+  unfragmented,
+  dataOffset,
+  tcpTests,
+  tcpHere,
+  udpTests,
+  udpHere,
+  segmentAt,
+  datagramAt,
+  transportAt,
+  transportOf,
+}
+use Rattle.payloads.specs.Someip.{someipBytes, someipTests, someipHere, messageAt, someipAt, someipOf}
+use Rattle.packets.specs.Inside.{IpInside}
+use Rattle.payloads.specs.Inside.{TransportInside, SomeipInside}
+use Rattle.packets.specs.declared.Ip.{Ip}
+use Rattle.packets.specs.declared.Ip.the-variants as ip
+use Rattle.payloads.specs.declared.Transport.{Transport}
+use Rattle.payloads.specs.declared.Transport.the-variants as transport
+
+-- ---- what a test that passed says of the lengths
+
+module _ (s : List ℕ) (protocol at len : ℕ) where
+  pub tcp-fits : tcpHere s protocol at len ≡ true → (tcpBytes ≤ len) × ((leastOffset ≤ dataOffset s at) × (4 * dataOffset s at ≤ len))
+  unfolding tcpHere tcpTests
+  tcp-fits e =
+      let ts = tcpTests s protocol at len in
+      (leb-true _ _ (every-at ts 1 e), (leb-true _ _ (every-at ts 2 e), leb-true _ _ (every-at ts 3 e)))
+
+  pub udp-fits : udpHere s protocol at len ≡ true → udpBytes ≤ len
+  unfolding udpHere udpTests
+  udp-fits e = leb-true _ _ (every-at (udpTests s protocol at len) 1 e)
+
+pub someip-fits : (s : List ℕ) (at len : ℕ) → someipHere s at len ≡ true → someipBytes ≤ len
+unfolding someipHere someipTests
+someip-fits s at len e = leb-true _ _ (every-at (someipTests s at len) 0 e)
+
+-- ---- each layer lies within the frame
+
+at-inside : (s : List ℕ) (protocol at len : ℕ) → at + len ≤ length s → TransportInside s (transportAt s protocol at len)
+unfolding transportAt segmentAt datagramAt
+at-inside s protocol at len b =
+    cond-both (TransportInside s) (tcpHere s protocol at len) _ _
+    (λ h.
+    let f = tcp-fits s protocol at len h in
+    let w = f .1 .0 in
+    let l = f .1 .1 in
+    record { words = omega arith; header = omega arith })
+    (λ h. cond-both (TransportInside s) (udpHere s protocol at len) _ _
+    (λ k.
+    let l = udp-fits s protocol at len k in
+    record { joined = refl; payload = omega arith })
+    (λ k. tt))
+
+pub transport-inside : (s : List ℕ) (i : Ip) → IpInside s i → TransportInside s (transportOf s i)
+unfolding transportOf
+transport-inside s ip.Absent w = tt
+transport-inside s (ip.V4 p) w =
+    cond-both (TransportInside s) (unfragmented s (p .header)) _ _
+    (λ h. at-inside s (p .protocol) (p .payload) (p .plen) (w .payload))
+    (λ h. tt)
+
+pub someip-inside : (s : List ℕ) (t : Transport) → TransportInside s t → SomeipInside s (someipOf s t)
+unfolding someipOf someipAt messageAt
+someip-inside s transport.Absent w = tt
+someip-inside s (transport.Tcp t) w = tt
+someip-inside s (transport.Udp u) w =
+    cond-both (SomeipInside s) (someipHere s (u .payload) (u .plen)) _ _
+    (λ h. record { header = omega (arith, w .payload, someip-fits s (u .payload) (u .plen) h) })
+    (λ h. tt)

@@ -1,0 +1,27 @@
+-- `layers::transport_layer::read_transport` meets its contract: by the cases of IP.
+use mathlib.Core.Path.{subst}
+use Rattle.payloads.specs.Transport.{transportOf}
+use Rattle.packets.specs.Inside.{IpInside}
+use borrow.Author.Needs.{needs}
+use Rattle.payloads.proofs.transport_layer.read_transport.Statement.{statement}
+use Rattle.payloads.proofs.transport_layer.read_transport.Tie as tie
+
+enum-told : tie.Need-enum-told
+enum-told c = search needs
+
+enum-known-i : tie.Need-enum-known-i
+enum-known-i c = search needs
+
+transport-in-requires : tie.Need-transport-in-requires
+transport-in-requires c κs = subst (IpInside _) (c .before .i .given .1) (c .before .before .before .before .pre)
+
+returns : tie.Need-returns
+unfolding transportOf
+returns c = cc
+
+returns-2 : tie.Need-returns-2
+returns-2 c = cc
+
+pub read-transport-spec : {M : Type 1} → statement M
+read-transport-spec =
+    tie.close (tie.spec enum-told enum-known-i transport-in-requires returns returns-2)

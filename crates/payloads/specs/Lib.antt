@@ -1,0 +1,3 @@
+pub mod Transport
+pub mod Someip
+pub mod Inside
