@@ -1,4 +1,8 @@
-//! Verdicts, refusals and the answer of a judged call, with 01's numbers.
+//! Verdicts, refusals and the answer of a judged call, with the numbers of 01 as 02 amends them.
+
+use std::fmt;
+
+use crate::setting;
 
 /// The rule id of an answer or event that no rule stands behind.
 pub const NO_RULE: u16 = 65_535;
@@ -12,9 +16,14 @@ pub enum Verdict {
     PassedByDefault = 1,
     Blocked = 2,
     OverRate = 3,
-    WrongSegment = 4,
     NoFreePlace = 5,
     BlockedByDefault = 6,
+    /// The four flags are no kind of segment, whether a conversation is held or not.
+    WrongFlags = 40,
+    /// The kind is not open, and no such conversation is held.
+    NoSuchConversation = 41,
+    /// A conversation is held, in a state in which 01's table does not allow the kind.
+    KindNotAllowed = 42,
 }
 
 impl Verdict {
@@ -32,29 +41,44 @@ pub enum Refusal {
     ShortFrame,
     LongFrame,
     SmallSpace,
-    BadTable(u8),
+    /// The first rule at fault and the first setting at fault in it.
+    BadTable {
+        place: u8,
+        setting: u8,
+    },
     BadRecord,
     NoSuchState,
 }
 
 impl Refusal {
+    /// The fault is in the rule count or the states: no rule, and none of its settings.
+    pub const NO_RULE_AT_FAULT: Refusal = Refusal::BadTable { place: NO_PLACE, setting: setting::NONE };
+
     pub fn number(self) -> u8 {
         match self {
             Refusal::ShortFrame => 1,
             Refusal::LongFrame => 2,
             Refusal::SmallSpace => 3,
-            Refusal::BadTable(_) => 4,
+            Refusal::BadTable { .. } => 4,
             Refusal::BadRecord => 5,
             Refusal::NoSuchState => 6,
         }
     }
 
-    /// Only refusal 4 carries a place; the others give 0.
-    pub fn place(self) -> u8 {
+    /// Only refusal 4 carries a place and a setting; the others give 0 and 0.
+    pub fn place_and_setting(self) -> (u8, u8) {
         match self {
-            Refusal::BadTable(place) => place,
-            _ => 0,
+            Refusal::BadTable { place, setting } => (place, setting),
+            _ => (0, 0),
         }
+    }
+}
+
+/// The three numbers that a refusal carries.
+impl fmt::Display for Refusal {
+    fn fmt(&self, to: &mut fmt::Formatter) -> fmt::Result {
+        let (place, setting) = self.place_and_setting();
+        write!(to, "{} {place} {setting}", self.number())
     }
 }
 

@@ -8,7 +8,7 @@ use std::io::{self, Write};
 
 use crate::answer::Refusal;
 use crate::draft::{junk, Draft, DAMAGES};
-use crate::faults::{spoil_records, spoil_table, undercut_records, RECORD_FAULTS, TABLE_FAULTS};
+use crate::faults::{spoil_records, undercut_records, BadTable, RECORD_FAULTS};
 use crate::image;
 use crate::judge::judge;
 use crate::layers::{self, Kind, ACK, FIN, RST, SYN};
@@ -37,6 +37,7 @@ pub struct Gen<W: Write> {
     calls: u64,
     left: u64,
     /// Faults come in turn, so that each comes before any comes twice.
+    bad_tables: Vec<BadTable>,
     table_fault: usize,
     record_fault: usize,
     /// Whether a table stands under which the records are bad.
@@ -57,6 +58,7 @@ pub fn generate<W: Write>(seed: u64, calls: u64, output: W) -> io::Result<bool> 
         now: 0,
         calls,
         left: calls,
+        bad_tables: BadTable::all(),
         table_fault: 0,
         record_fault: 0,
         undercut: false,
@@ -105,7 +107,7 @@ impl<W: Write> Gen<W> {
             self.put_back(&good)?;
             self.high_records()?;
         }
-        while self.table_fault < due(TABLE_FAULTS.len(), number, tables, 80, self.calls) {
+        while self.table_fault < due(self.bad_tables.len(), number, tables, 160, self.calls) {
             self.bad_table(&good)?;
         }
         if number % 8 == 0 {

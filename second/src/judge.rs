@@ -46,7 +46,7 @@ fn by_rule(
     records.counts[place].raise(verdict.passes());
     let number = match verdict {
         Verdict::OverRate => event::RATELIMIT,
-        Verdict::WrongSegment => event::TCP_STATETRANSITION,
+        Verdict::WrongFlags | Verdict::NoSuchConversation | Verdict::KindNotAllowed => event::TCP_STATETRANSITION,
         Verdict::NoFreePlace => event::TCP_MAXCONNECTIONS,
         _ => return Answer { verdict, rule: rule.id, length: 0 },
     };
@@ -97,38 +97,41 @@ enum Segment {
     Carry,
     End,
     Reset,
-    Wrong,
 }
 
-/// What a segment is to tracking, by the four flags it looks at.
-fn segment(flags: u8) -> Segment {
+/// The kind of a segment, by the four flags that tracking looks at; none where they are wrong.
+fn segment(flags: u8) -> Option<Segment> {
     const SYN_ACK: u8 = SYN | ACK;
     const RST_ACK: u8 = RST | ACK;
     const FIN_ACK: u8 = FIN | ACK;
     match flags & (FIN | SYN | RST | ACK) {
-        SYN | SYN_ACK => Segment::Open,
-        RST | RST_ACK => Segment::Reset,
-        FIN_ACK => Segment::End,
-        ACK => Segment::Carry,
-        _ => Segment::Wrong,
+        SYN | SYN_ACK => Some(Segment::Open),
+        RST | RST_ACK => Some(Segment::Reset),
+        FIN_ACK => Some(Segment::End),
+        ACK => Some(Segment::Carry),
+        _ => None,
     }
 }
 
+/// Wrong flags come before the conversation is looked for, so that 01's table speaks of the four kinds alone.
 fn track(rule: &Rule, records: &mut Records, place: usize, layers: &Layers) -> Verdict {
-    // A rule with tracking is of kind TCP, so a frame it matches shows both layers.
     let (Some(ip), Some(tcp)) = (&layers.ip, &layers.transport) else {
-        return Verdict::WrongSegment;
+        unreachable!("a rule with tracking is of kind TCP, so a frame it matches shows both layers");
+    };
+    let Some(segment) = segment(tcp.flags) else {
+        return Verdict::WrongFlags;
     };
     let quadruple = Quadruple::new(ip.source, ip.destination, tcp.sport, tcp.dport);
     match records.find(place, quadruple) {
-        None => begin(rule, records, place, quadruple, segment(tcp.flags)),
-        Some(slot) => proceed(records, place, slot, segment(tcp.flags)),
+        None => begin(rule, records, place, quadruple, segment),
+        Some(slot) => proceed(records, place, slot, segment),
     }
 }
 
+/// The first row of 01's table: no such conversation is held.
 fn begin(rule: &Rule, records: &mut Records, place: usize, quadruple: Quadruple, segment: Segment) -> Verdict {
     if segment != Segment::Open {
-        return Verdict::WrongSegment;
+        return Verdict::NoSuchConversation;
     }
     let Some(slot) = records.first_free(place, rule.places) else {
         return Verdict::NoFreePlace;
@@ -138,6 +141,7 @@ fn begin(rule: &Rule, records: &mut Records, place: usize, quadruple: Quadruple,
     Verdict::Passed
 }
 
+/// The rows of 01's table for a conversation that is held.
 fn proceed(records: &mut Records, place: usize, slot: usize, segment: Segment) -> Verdict {
     let held = &mut records.held[place][slot];
     match (*held, segment) {
@@ -148,7 +152,7 @@ fn proceed(records: &mut Records, place: usize, slot: usize, segment: Segment) -
             records.free(place, slot);
             return Verdict::Passed;
         }
-        _ => return Verdict::WrongSegment,
+        _ => return Verdict::KindNotAllowed,
     }
     records.conversations[place][slot].age = 0;
     Verdict::Passed

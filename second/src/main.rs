@@ -1,4 +1,4 @@
-//! A second reading of document 01: it judges the same calls as the proved program, so that the two can be held together.
+//! A second reading of document 01, as 02 amends it: it judges the same calls as the proved program, so that the two can be held together.
 
 mod answer;
 mod draft;
@@ -9,6 +9,8 @@ mod image;
 mod judge;
 mod layers;
 mod matching;
+#[cfg(test)]
+mod naming;
 mod pace;
 mod random;
 mod reach;
@@ -16,6 +18,7 @@ mod reach;
 mod readings;
 mod recording;
 mod records;
+mod setting;
 mod stream;
 mod table;
 mod table_t;
@@ -82,6 +85,9 @@ fn pace(scene: &pace::Scene, times: u32, step: u32) -> io::Result<ExitCode> {
 
 fn usage() -> ExitCode {
     eprintln!("second run < stream > lines\nsecond recording < capture > stream\nsecond gen SEED N > stream");
-    eprintln!("second pace SCENE TIMES STEP > stream, SCENE one of worked, last, none, held, grow RULES HELD LENGTH");
+    eprintln!(
+        "second pace SCENE TIMES STEP > stream, SCENE one of worked, last, none, held, grow RULES HELD LENGTH, or"
+    );
+    eprintln!("  check NAME, NAME one of worked, ports, tracked, empty, full, nothing");
     ExitCode::from(2)
 }

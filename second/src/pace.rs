@@ -1,10 +1,11 @@
-//! Streams for timing: one scene's table and records, each of its frames judged many times, then the records printed.
+//! Streams for timing: one scene's table and records, each of its frames judged many times, then the records printed; or a table alone,
+//! checked many times.
 
 use std::io::{self, Write};
 
 use crate::draft::{Damage, Draft};
 use crate::image::{read_table, write_records, write_table, TABLE_IMAGE};
-use crate::layers::{Kind, ACK, ETHER_IPV4};
+use crate::layers::{Kind, ACK, ETHER_IPV4, PROTOCOL_TCP};
 use crate::random::Random;
 use crate::records::{Conversation, Quadruple, Records, RUNNING};
 use crate::table::{set, Action, Prefix, Range, Rule, State, Table, LONGEST_IDLE, PLACES, RULES};
@@ -25,10 +26,11 @@ const FIRST_PORT: u16 = 10_000;
 const PORTS_A_RULE: u16 = 10;
 const PORT_OF_NO_RULE: u16 = 40_000;
 
-pub struct Scene {
-    table: Table,
-    records: Records,
-    frames: Vec<Vec<u8>>,
+pub enum Scene {
+    /// Each frame is judged on these records.
+    Judged { table: Table, records: Records, frames: Vec<Vec<u8>> },
+    /// Fresh records of this table are asked for, and refused.
+    Checked(Table),
 }
 
 /// The scene that these words name.
@@ -38,30 +40,72 @@ pub fn scene(words: &[&str]) -> Option<Scene> {
         ["last"] => Some(ports(first_port(RULES - 1))),
         ["none"] => Some(ports(PORT_OF_NO_RULE)),
         ["held"] => Some(held()),
+        ["check", name] => checked(name),
         ["grow", rules, held, length] => grow(rules.parse().ok()?, held.parse().ok()?, length.parse().ok()?),
         _ => None,
     }
 }
 
 impl Scene {
-    /// Each frame `times` times, one reading after the other.
+    /// Each call `times` times, one reading after the other.
     pub fn write(&self, times: u32, step: u32, output: &mut impl Write) -> io::Result<()> {
-        let random = &mut Random::new(0);
-        output.write_all(b"T")?;
-        output.write_all(&write_table(&self.table, random))?;
-        output.write_all(b"R")?;
-        output.write_all(&write_records(&self.records, random))?;
-        let mut reading = START;
-        for frame in &self.frames {
-            output.write_all(b"B")?;
-            output.write_all(&[times.to_be_bytes(), step.to_be_bytes()].concat())?;
-            output.write_all(&reading.to_be_bytes())?;
-            output.write_all(&[SPACE.to_be_bytes(), (frame.len() as u16).to_be_bytes()].concat())?;
-            output.write_all(frame)?;
-            reading += u64::from(times) * u64::from(step);
+        match self {
+            Scene::Judged { table, records, frames } => write_judged(table, records, frames, times, step, output),
+            Scene::Checked(table) => write_checked(table, times, step, output),
         }
-        output.write_all(b"P")
     }
+}
+
+fn write_judged(
+    table: &Table,
+    records: &Records,
+    frames: &[Vec<u8>],
+    times: u32,
+    step: u32,
+    output: &mut impl Write,
+) -> io::Result<()> {
+    let random = &mut Random::new(0);
+    output.write_all(b"T")?;
+    output.write_all(&write_table(table, random))?;
+    output.write_all(b"R")?;
+    output.write_all(&write_records(records, random))?;
+    let mut reading = START;
+    for frame in frames {
+        output.write_all(b"B")?;
+        output.write_all(&[times.to_be_bytes(), step.to_be_bytes()].concat())?;
+        output.write_all(&reading.to_be_bytes())?;
+        output.write_all(&[SPACE.to_be_bytes(), (frame.len() as u16).to_be_bytes()].concat())?;
+        output.write_all(frame)?;
+        reading += u64::from(times) * u64::from(step);
+    }
+    output.write_all(b"P")
+}
+
+fn write_checked(table: &Table, times: u32, step: u32, output: &mut impl Write) -> io::Result<()> {
+    output.write_all(b"T")?;
+    output.write_all(&write_table(table, &mut Random::new(0)))?;
+    for turn in 0..u64::from(times) {
+        output.write_all(b"F")?;
+        output.write_all(&(START + turn * u64::from(step)).to_be_bytes())?;
+    }
+    Ok(())
+}
+
+/// A table without a vehicle state, which is refused only once every rule has been checked; `nothing` before any has.
+fn checked(name: &str) -> Option<Scene> {
+    let mut table = match name {
+        "worked" => table_t(),
+        "ports" | "nothing" => table(RULES, Action::Block, port_rule),
+        "tracked" => table(RULES, Action::Block, tracked_rule),
+        "empty" => table(RULES, Action::Block, |place| allow(place, 0)),
+        "full" => table(RULES, Action::Block, full_rule),
+        _ => return None,
+    };
+    table.state_count = 0;
+    if name == "nothing" {
+        table.rule_count = RULES as u8 + 1;
+    }
+    Some(Scene::Checked(table))
 }
 
 /// Table T: a frame that passes, one over its rate, one that a rule blocks, one that the default blocks.
@@ -69,14 +113,14 @@ fn worked() -> Scene {
     let (mut low, mut other) = (frame_a(), frame_a());
     low[36..38].copy_from_slice(&68u16.to_be_bytes());
     other[56] = 0x81;
-    Scene { table: table_t(), records: Records::empty(START), frames: vec![frame_a(), arp(), low, other] }
+    Scene::Judged { table: table_t(), records: Records::empty(START), frames: vec![frame_a(), arp(), low, other] }
 }
 
 /// Rules that differ in their range of ports, and a frame to one port.
 fn ports(port: u16) -> Scene {
     let table = table(RULES, Action::Block, port_rule);
     let frame = frame(Kind::Udp, 30_491, port, 22);
-    Scene { table, records: Records::empty(START), frames: vec![frame] }
+    Scene::Judged { table, records: Records::empty(START), frames: vec![frame] }
 }
 
 /// All places held, and a frame of the last conversation.
@@ -84,7 +128,7 @@ fn held() -> Scene {
     let table = table(RULES, Action::Block, tracked_rule);
     let mut draft = draft(Kind::Tcp, HTTPS, first_port(RULES - 1), 10);
     draft.source = quadruple(RULES - 1, PLACES - 1).source;
-    Scene { table, records: running(RULES, PLACES), frames: vec![draft.bytes(&mut Random::new(0))] }
+    Scene::Judged { table, records: running(RULES, PLACES), frames: vec![draft.bytes(&mut Random::new(0))] }
 }
 
 /// So many tracked rules, so many places of each held, and a frame of that length that no rule matches and the default allows.
@@ -94,7 +138,7 @@ fn grow(rules: usize, held: usize, length: usize) -> Option<Scene> {
     }
     let table = table(rules, Action::Allow, tracked_rule);
     let frame = frame(Kind::Tcp, HTTPS, PORT_OF_NO_RULE, length - HEADERS);
-    Some(Scene { table, records: running(rules, held), frames: vec![frame] })
+    Some(Scene::Judged { table, records: running(rules, held), frames: vec![frame] })
 }
 
 /// A table of one state in which every rule is active.
@@ -138,6 +182,25 @@ fn tracked_rule(place: usize) -> Rule {
     }
 }
 
+/// Every setting but those of SOME/IP, which a rule of kind TCP has no use for.
+fn full_rule(place: usize) -> Rule {
+    let tracked = tracked_rule(place);
+    Rule {
+        set: set::LINK | set::IP | set::RATE | tracked.set,
+        dst: 0x021b_bbbb_bbbb,
+        src: 0x021a_aaaa_aaaa,
+        vlan: 100,
+        priority: 5,
+        ether: ETHER_IPV4,
+        source: Prefix { address: 0x0a00_0000, length: 8 },
+        destination: Prefix { address: DESTINATION, length: 32 },
+        protocol: PROTOCOL_TCP,
+        size: 1_000,
+        refill: 1_000,
+        ..tracked
+    }
+}
+
 fn quadruple(place: usize, slot: usize) -> Quadruple {
     Quadruple::new(SOURCE + slot as u32, DESTINATION, HTTPS, first_port(place))
 }
@@ -177,5 +240,21 @@ fn draft(kind: Kind, sport: u16, dport: u16, payload: usize) -> Draft {
         message: None,
         payload,
         damage: Damage::None,
+    }
+}
+
+#[cfg(test)]
+mod tests {
+    use super::{checked, Scene};
+    use crate::answer::Refusal;
+
+    #[test]
+    fn a_checked_table_lacks_nothing_but_a_vehicle_state() {
+        for name in ["worked", "ports", "tracked", "empty", "full"] {
+            let Some(Scene::Checked(mut table)) = checked(name) else { panic!("no table {name}") };
+            assert_eq!(table.check(), Err(Refusal::NO_RULE_AT_FAULT), "{name}");
+            table.state_count = 1;
+            assert_eq!(table.check(), Ok(()), "{name}");
+        }
     }
 }

@@ -3,10 +3,11 @@
 use std::collections::BTreeMap;
 
 use crate::answer::{Answer, Refusal, Verdict, NO_RULE};
-use crate::faults::{RECORD_FAULTS, TABLE_FAULTS};
+use crate::faults::{BadTable, RECORD_FAULTS};
 use crate::layers::{self, be16, be32, Kind, Layers, ACK, ETHER_IPV4, ETHER_TAG, FIN, RST, SYN};
 use crate::records::{Quadruple, Records, FREE, HIGHEST_LEVEL};
-use crate::table::{set, Table, PLACES, RULES};
+use crate::setting;
+use crate::table::{set, Table, PLACES, RULES, SETTINGS_AT_FAULT};
 
 pub const HELD_NAMES: [&str; 4] = ["none", "opening", "running", "closing"];
 
@@ -79,6 +80,18 @@ const NAMES: [&str; 65] = [
 ];
 const LAST_NAMES: [&str; 2] = ["someip-length-high", "someip"];
 
+const VERDICTS: [Verdict; 9] = [
+    Verdict::Passed,
+    Verdict::PassedByDefault,
+    Verdict::Blocked,
+    Verdict::OverRate,
+    Verdict::NoFreePlace,
+    Verdict::BlockedByDefault,
+    Verdict::WrongFlags,
+    Verdict::NoSuchConversation,
+    Verdict::KindNotAllowed,
+];
+
 pub struct Reach(BTreeMap<String, u64>);
 
 /// One judged call and what came of it.
@@ -90,6 +103,11 @@ pub struct Call<'a> {
     pub frame: &'a [u8],
     pub space: &'a [u8],
     pub judged: Result<Answer, Refusal>,
+}
+
+/// The name of a setting that refusal 4 names.
+fn setting_name(setting: u8) -> String {
+    format!("setting-{setting}")
 }
 
 /// The name of a set of flags on a tracked rule, by how its conversation is held.
@@ -107,9 +125,10 @@ pub fn flag_sets() -> impl Iterator<Item = u8> {
 impl Reach {
     pub fn new() -> Reach {
         let mut names: Vec<String> = NAMES.iter().chain(&LAST_NAMES).map(|name| name.to_string()).collect();
-        names.extend((0..7).map(|verdict| format!("verdict-{verdict}")));
+        names.extend(VERDICTS.map(|verdict| format!("verdict-{}", verdict.number())));
         names.extend((1..7).map(|refusal| format!("refusal-{refusal}")));
-        names.extend(TABLE_FAULTS.map(|fault| format!("table-fault-{fault}")));
+        names.extend([setting::ID, setting::NONE].iter().chain(&SETTINGS_AT_FAULT).map(|number| setting_name(*number)));
+        names.extend(BadTable::all().into_iter().map(BadTable::name));
         names.extend(RECORD_FAULTS.map(|fault| format!("record-fault-{fault}")));
         names.extend((0..4).flat_map(|held| flag_sets().map(move |flags| flags_name(held, flags))));
         Reach(names.into_iter().map(|name| (name, 0)).collect())
@@ -125,6 +144,9 @@ impl Reach {
 
     pub fn refused(&mut self, refusal: Refusal) {
         self.hit(&format!("refusal-{}", refusal.number()));
+        if let Refusal::BadTable { setting, .. } = refusal {
+            self.hit(&setting_name(setting));
+        }
     }
 
     /// Says every name and count; gives how many were not reached.

@@ -1,6 +1,6 @@
 //! Tests of the case stream and of readings that the worked set leaves open.
 
-use crate::faults::{spoil_table, TABLE_FAULTS};
+use crate::faults::BadTable;
 use crate::gen::generate;
 use crate::random::Random;
 use crate::records::{Records, CLOSING};
@@ -18,7 +18,7 @@ fn lines(stream: &[u8]) -> String {
 #[test]
 fn a_stream_that_ends_or_breaks() {
     assert_eq!(lines(b""), "");
-    assert_eq!(lines(b"CZC"), "X 4 64\n?\n");
+    assert_eq!(lines(b"CZC"), "X 4 64 255\n?\n");
     assert_eq!(lines(b"T too short"), "?\n");
     assert_eq!(lines(b"L\x08\x01"), "?\n");
     assert_eq!(lines(b"J\0\0\0\0\0\0\0\0\x02\x01\0\0"), "?\n");
@@ -27,14 +27,14 @@ fn a_stream_that_ends_or_breaks() {
 
 #[test]
 fn the_first_table_is_bad_and_the_first_records_empty() {
-    assert_eq!(lines(b"F\0\0\0\0\0\0\0\x05V\0P"), "X 4 64\nX 4 64\nP 0 0 0 0\n.\n");
+    assert_eq!(lines(b"F\0\0\0\0\0\0\0\x05V\0P"), "X 4 64 255\nX 4 64 255\nP 0 0 0 0\n.\n");
     // The bad table comes before the short frame and the missing space.
-    assert_eq!(lines(b"J\0\0\0\0\0\0\0\0\0\0\0\0"), "X 4 64\n");
+    assert_eq!(lines(b"J\0\0\0\0\0\0\0\0\0\0\0\0"), "X 4 64 255\n");
 }
 
 #[test]
 fn layers_alone() {
-    assert_eq!(lines(b"L\0\x03abc"), "X 1 0\n");
+    assert_eq!(lines(b"L\0\x03abc"), "X 1 0 0\n");
     let tagged = b"L\0\x12\x01\x02\x03\x04\x05\x06\x07\x08\x09\x0a\x0b\x0c\x81\x00\xaf\xff\x81\x00";
     assert_eq!(lines(tagged), "L 010203040506 0708090a0b0c 5,4095 33024 - - -\n");
 }
@@ -47,14 +47,24 @@ fn a_prefix_compares_its_leading_bits() {
 }
 
 #[test]
-fn each_table_fault_is_refused_at_its_place() {
+fn each_bad_table_is_refused_at_its_place_and_setting() {
     let mut random = Random::new(3);
-    for fault in TABLE_FAULTS.iter().cycle().take(500) {
+    let all = BadTable::all();
+    for bad in all.iter().cycle().take(5_000) {
         let mut table = draw_table(random.below(8), &mut random);
         assert!(table.check().is_ok());
-        let place = spoil_table(&mut table, fault, &mut random);
-        assert_eq!(table.check().map_err(|refusal| refusal.place()), Err(place), "{fault}");
+        let refused = bad.spoil(&mut table, &mut random);
+        assert_eq!(table.check(), Err(refused), "{}", bad.name());
     }
+}
+
+/// Eleven settings and none: any two can be at fault together, save the halves of the rate.
+#[test]
+fn every_two_settings_that_can_be_at_fault_are() {
+    let two = |bad: &&BadTable| matches!(bad, BadTable::Settings(..));
+    let names: Vec<String> = BadTable::all().iter().filter(two).map(|bad| bad.name()).collect();
+    assert_eq!(names.len(), 12 * 11 / 2 - 1);
+    assert!(!names.contains(&"two-faults-17-18".to_string()));
 }
 
 #[test]

@@ -118,7 +118,9 @@ impl Records {
     fn empty_from(&self, count: usize) -> bool {
         let levels = self.levels[count..].iter().fold(0, |any, level| any | level);
         let held = self.held[count..].iter().fold(0, |any, held| any | u64::from_ne_bytes(*held));
-        levels == 0 && held == 0 && (!WORDS || self.conversations[count..].iter().fold(0, |any, row| any | filled(row)) == 0)
+        levels == 0
+            && held == 0
+            && (!WORDS || self.conversations[count..].iter().fold(0, |any, row| any | filled(row)) == 0)
     }
 
     #[inline]

@@ -167,7 +167,7 @@ impl Run {
 fn print_done(output: &mut impl Write, letter: &str, done: Result<(), Refusal>) -> io::Result<()> {
     match done {
         Ok(()) => writeln!(output, "{letter}"),
-        Err(refusal) => writeln!(output, "X {} {}", refusal.number(), refusal.place()),
+        Err(refusal) => writeln!(output, "X {refusal}"),
     }
 }
 
@@ -175,7 +175,7 @@ fn print_judged(output: &mut impl Write, judged: Result<Answer, Refusal>, space:
     let written = judged.map_or(0, |answer| answer.length);
     match judged {
         Ok(answer) => write!(output, "J {} {} {} ", answer.verdict.number(), answer.rule, answer.length)?,
-        Err(refusal) => write!(output, "X {} {}", refusal.number(), refusal.place())?,
+        Err(refusal) => write!(output, "X {refusal}")?,
     }
     if judged.is_ok() && written == 0 {
         output.write_all(b"-")?;
@@ -198,7 +198,7 @@ fn print_hex(output: &mut impl Write, bytes: &[u8]) -> io::Result<()> {
 fn print_layers(output: &mut impl Write, read: Result<Layers, Refusal>) -> io::Result<()> {
     let layers = match read {
         Ok(layers) => layers,
-        Err(refusal) => return writeln!(output, "X {} 0", refusal.number()),
+        Err(refusal) => return writeln!(output, "X {refusal}"),
     };
     write!(output, "L {:012x} {:012x} ", layers.dst, layers.src)?;
     match layers.tag {

@@ -1,7 +1,8 @@
 //! Rules and vehicle states, and what makes a table bad.
 
-use crate::answer::{Refusal, NO_PLACE, NO_RULE};
+use crate::answer::{Refusal, NO_RULE};
 use crate::layers::Kind;
+use crate::setting;
 
 pub const RULES: usize = 64;
 pub const STATES: usize = 8;
@@ -69,6 +70,12 @@ pub struct Range {
 }
 
 impl Range {
+    /// The low end is above the high.
+    #[inline]
+    fn turned(self) -> bool {
+        self.low > self.high
+    }
+
     #[inline]
     pub fn holds(self, port: u16) -> bool {
         self.low <= port && port <= self.high
@@ -109,25 +116,53 @@ impl Rule {
         self.set & settings != 0
     }
 
-    /// Everything that can be wrong with one rule by itself. No test is skipped for another: that is faster than to branch.
+    /// Which of `SETTINGS_AT_FAULT` are, as 02 names a fault: half a pair by its set half, ports without a kind by their first
+    /// range, misplaced tracking by its first set half. No test is skipped for another: that is faster than to branch.
+    #[inline]
+    fn faults(&self) -> [bool; SETTINGS_AT_FAULT.len()] {
+        let (kind, tcp) = (self.has(set::KIND), self.kind == Kind::Tcp);
+        let misplaced = (self.action == Action::Block) | !kind | !tcp;
+        let (places, idle) = (self.has(set::PLACES), self.has(set::IDLE));
+        [
+            self.has(set::VLAN) & (self.vlan > 4_094),
+            self.has(set::PRIORITY) & (self.priority > 7),
+            self.has(set::SOURCE) & (self.source.length > 32),
+            self.has(set::DESTINATION) & (self.destination.length > 32),
+            self.has(set::SOURCE_PORTS) & (self.sports.turned() | !kind),
+            self.has(set::DEST_PORTS) & (self.dports.turned() | !kind),
+            self.has(set::SIZE) & !self.has(set::REFILL),
+            self.has(set::REFILL) & !self.has(set::SIZE),
+            places & (!idle | misplaced | (self.places < 1) | (self.places > PLACES as u8)),
+            idle & (!places | (self.idle < 1) | (self.idle > LONGEST_IDLE)),
+        ]
+    }
+
+    /// Whether anything is wrong with the rule by itself.
     #[inline]
     fn at_fault(&self) -> bool {
-        let tcp = self.has(set::KIND) & (self.kind == Kind::Tcp);
-        (self.id == NO_RULE)
-            | (self.has(set::VLAN) & (self.vlan > 4_094))
-            | (self.has(set::PRIORITY) & (self.priority > 7))
-            | (self.has(set::SOURCE) & (self.source.length > 32))
-            | (self.has(set::DESTINATION) & (self.destination.length > 32))
-            | (self.has(set::SOURCE_PORTS) & (self.sports.low > self.sports.high))
-            | (self.has(set::DEST_PORTS) & (self.dports.low > self.dports.high))
-            | (self.has(set::PORTS) & !self.has(set::KIND))
-            | (self.has(set::SIZE) != self.has(set::REFILL))
-            | (self.has(set::PLACES) != self.has(set::IDLE))
-            | (self.has(set::PLACES) & ((self.places < 1) | (self.places > PLACES as u8)))
-            | (self.has(set::IDLE) & ((self.idle < 1) | (self.idle > LONGEST_IDLE)))
-            | (self.has(set::TRACKING) & ((self.action == Action::Block) | !tcp))
+        self.faults().into_iter().fold(self.id == NO_RULE, |any, fault| any | fault)
+    }
+
+    /// The settings at fault beside the id, in 01's order.
+    pub fn settings_at_fault(&self) -> impl Iterator<Item = u8> {
+        let faults = SETTINGS_AT_FAULT.into_iter().zip(self.faults());
+        faults.filter(|(_, at_fault)| *at_fault).map(|(setting, _)| setting)
     }
 }
+
+/// The settings beside the id that can be at fault, in 01's order. Every other holds no more than it may.
+pub const SETTINGS_AT_FAULT: [u8; 10] = [
+    setting::VLAN,
+    setting::PRIORITY,
+    setting::SOURCE,
+    setting::DESTINATION,
+    setting::SOURCE_PORTS,
+    setting::DEST_PORTS,
+    setting::SIZE,
+    setting::REFILL,
+    setting::PLACES,
+    setting::IDLE,
+];
 
 #[derive(Clone, Copy, Debug)]
 pub struct State {
@@ -154,16 +189,16 @@ impl Table {
         &self.rules[..usize::from(self.rule_count).min(RULES)]
     }
 
-    /// Refuses 4: the rule count, then the rules, then the states.
+    /// Refuses 4: the rule count, then the rules, then the states. The setting is looked for only where a rule is at fault.
     #[inline]
     pub fn check(&self) -> Result<(), Refusal> {
         if usize::from(self.rule_count) > RULES {
-            return Err(Refusal::BadTable(NO_PLACE));
+            return Err(Refusal::NO_RULE_AT_FAULT);
         }
         let mut sieve: Sieve = [0; 16];
         for (place, rule) in self.rules().iter().enumerate() {
             if rule.at_fault() || self.repeats(place, rule.id, &mut sieve) {
-                return Err(Refusal::BadTable(place as u8));
+                return Err(self.refused_at(place));
             }
         }
         self.check_states()
@@ -179,16 +214,25 @@ impl Table {
         doubt && self.rules[..place].iter().any(|earlier| earlier.id == id)
     }
 
+    /// The rule at this place is the first at fault. Its id comes first of its settings.
+    #[cold]
+    fn refused_at(&self, place: usize) -> Refusal {
+        let rule = &self.rules[place];
+        let id = rule.id == NO_RULE || self.rules[..place].iter().any(|earlier| earlier.id == rule.id);
+        let first = if id { Some(setting::ID) } else { rule.settings_at_fault().next() };
+        Refusal::BadTable { place: place as u8, setting: first.expect("a rule at fault has a setting at fault") }
+    }
+
     #[inline]
     fn check_states(&self) -> Result<(), Refusal> {
         let count = usize::from(self.state_count);
         if count < 1 || count > STATES {
-            return Err(Refusal::BadTable(NO_PLACE));
+            return Err(Refusal::NO_RULE_AT_FAULT);
         }
         let real = (1u128 << self.rule_count) - 1;
         let beyond = |state: &State| u128::from(state.marks) & !real != 0;
         if self.states[..count].iter().any(beyond) {
-            return Err(Refusal::BadTable(NO_PLACE));
+            return Err(Refusal::NO_RULE_AT_FAULT);
         }
         Ok(())
     }

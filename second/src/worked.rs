@@ -1,9 +1,10 @@
-//! The worked set of 01, M1 to M11, as tests.
+//! The worked set of 01, M1 to M11, as tests, and 01's table of flags and states with the verdicts of 02.
 
 use crate::answer::{Refusal, Verdict, NO_RULE};
 use crate::judge::judge;
 use crate::layers::{self, ACK, SYN};
-use crate::records::{fresh, Quadruple, Records, FREE, OPENING, RUNNING};
+use crate::reach::{flag_sets, flags_name};
+use crate::records::{fresh, Conversation, Quadruple, Records, CLOSING, FREE, OPENING, RUNNING};
 use crate::table::Table;
 use crate::table_t::{arp, frame_a, table_t};
 
@@ -112,11 +113,58 @@ fn m5_the_bucket_rises_and_drains() {
 #[test]
 fn m6_a_conversation_opens_and_runs() {
     let mut bench = Bench::new(0);
-    assert_eq!(bench.judge(0, &tcp(5_000, ACK)), (Verdict::WrongSegment, 20, event(63, 20, &[], 0)));
+    assert_eq!(bench.judge(0, &tcp(5_000, ACK)), (Verdict::NoSuchConversation, 20, event(63, 20, &[], 0)));
     assert_eq!(bench.judge(0, &tcp(5_000, SYN | ACK)), (Verdict::Passed, 20, vec![]));
     assert_eq!(bench.records.held[1][0], OPENING);
     assert_eq!(bench.judge(0, &tcp(5_000, ACK)), (Verdict::Passed, 20, vec![]));
     assert_eq!(bench.records.held[1][0], RUNNING);
+}
+
+/// The kinds, in the order of 01's table.
+const KINDS: &[u8; 4] = b"OCER";
+/// What each of the sixteen sets of flags is, FIN lowest, then SYN, RST and ACK; a point where it is wrong.
+const FLAG_SETS: &[u8; 16] = b"..O.R...CEO.R...";
+/// 01's table with 02's verdicts: how the conversation is held; for each kind the verdict, and how it is held after.
+const BY_KIND: [(u8, [(u8, u8); 4]); 4] = [
+    (FREE, [(0, OPENING), (41, FREE), (41, FREE), (41, FREE)]),
+    (OPENING, [(0, OPENING), (0, RUNNING), (0, CLOSING), (0, FREE)]),
+    (RUNNING, [(42, RUNNING), (0, RUNNING), (0, CLOSING), (0, FREE)]),
+    (CLOSING, [(42, CLOSING), (0, CLOSING), (0, CLOSING), (0, FREE)]),
+];
+
+#[test]
+fn each_set_of_flags_in_each_held_state() {
+    let quadruple = Quadruple::new(0x0a00_0009, 0x0a01_0001, 443, 5_000);
+    for (held, cells) in BY_KIND {
+        for (flags, letter) in flag_sets().zip(FLAG_SETS) {
+            let mut bench = Bench::new(0);
+            if held != FREE {
+                bench.records.held[1][0] = held;
+                bench.records.conversations[1][0] = Conversation { quadruple, age: 7 };
+            }
+            // The other flags say nothing to tracking.
+            let (verdict, rule, written) = bench.judge(0, &tcp(5_000, flags | 0xe8));
+            let kind = KINDS.iter().position(|kind| kind == letter);
+            let (number, after) = kind.map_or((40, held), |kind| cells[kind]);
+            let name = flags_name(held, flags);
+            assert_eq!((verdict.number(), rule), (number, 20), "{name}");
+            assert_eq!(written, if number == 0 { vec![] } else { event(63, 20, &[], 0) }, "{name}");
+            assert_eq!(bench.records.held[1][0], after, "{name}");
+            let age = if number == 0 || held == FREE { 0 } else { 7 };
+            assert_eq!(bench.records.conversations[1][0].age, age, "{name}");
+            assert_eq!(bench.records.counts[1].blocked, u32::from(number != 0), "{name}");
+        }
+    }
+}
+
+#[test]
+fn wrong_flags_come_before_full_places() {
+    let mut bench = Bench::new(0);
+    assert_eq!(bench.verdict(0, &tcp(1, SYN)), Verdict::Passed);
+    assert_eq!(bench.verdict(0, &tcp(2, SYN)), Verdict::Passed);
+    assert_eq!(bench.verdict(0, &tcp(3, 0)), Verdict::WrongFlags);
+    assert_eq!(bench.verdict(0, &tcp(3, ACK)), Verdict::NoSuchConversation);
+    assert_eq!(bench.verdict(0, &tcp(3, SYN)), Verdict::NoFreePlace);
 }
 
 #[test]

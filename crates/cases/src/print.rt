@@ -60,13 +60,20 @@ pub(crate) fn alone(letter: u8, out: &mut [u8; 65536], used: &mut usize) {
     put(out, used, b'\n');
 }
 
-fn refusal(number: u8, place: usize, out: &mut [u8; 65536], used: &mut usize) {
+// A refusal's three numbers.
+fn refusal(number: u8, place: usize, setting: u8, out: &mut [u8; 65536], used: &mut usize) {
     put(out, used, b'X');
-    row(out, used, b' ', b' ', &[byte(number), count(place)]);
+    row(
+        out,
+        used,
+        b' ',
+        b' ',
+        &[byte(number), count(place), byte(setting)],
+    );
 }
 
 fn refused(r: Refusal, out: &mut [u8; 65536], used: &mut usize) {
-    refusal(r.number, r.place, out, used);
+    refusal(r.number, r.place, r.setting, out, used);
     put(out, used, b'\n');
 }
 
@@ -96,7 +103,7 @@ pub(crate) fn judged(answer: Judged, space: [u8; 512], out: &mut [u8; 65536], us
         let Judged::Refused(r) = answer else {
             return;
         };
-        refusal(r.number, r.place, out, used);
+        refusal(r.number, r.place, r.setting, out, used);
         return ended(&space, 0, out, used);
     };
     answered(a, &space, out, used);
@@ -159,7 +166,7 @@ fn ended(space: &[u8; 512], length: usize, out: &mut [u8; 65536], used: &mut usi
 
 pub(crate) fn shown(answer: Shown, out: &mut [u8; 65536], used: &mut usize) {
     match answer {
-        Shown::Refused(f) => refusal(f.number(), 0, out, used),
+        Shown::Refused(f) => refusal(f.number(), 0, 0, out, used),
         Shown::Shows(l) => frame(l, out, used),
     }
     put(out, used, b'\n');

@@ -15,11 +15,13 @@ use Rattle.table.specs.declared.Tracking.the-variants as tracking
 use Rattle.table.specs.declared.Room.{Room}
 use Rattle.places.specs.Places.{Place, free, isFree, Fits, holds, phaseOf, heldAs}
 use Rattle.flags.specs.Flags.{nextOf}
-use Rattle.conversations.specs.Tracking.{Tracked, moved, begun, heldAt, freeAt, trackedIn, tracked}
+use Rattle.conversations.specs.Tracking.{Tracked, moved, begun, heldAt, freeAt, stepOf, trackedIn, tracked}
 use Rattle.places.specs.Good.{placesIn, limitIn, alone, isIpv4}
 use Rattle.places.specs.declared.Quad.{Quad}
 use Rattle.flags.specs.declared.FlagKind.{FlagKind}
 use Rattle.flags.specs.declared.FlagKind.the-variants as kind
+use Rattle.flags.specs.declared.Flags.{Flags}
+use Rattle.flags.specs.declared.Flags.the-variants as flags
 use Rattle.flags.specs.declared.Phase.{Phase}
 use Rattle.flags.specs.declared.Phase.the-variants as phase
 use Rattle.flags.specs.declared.Next.{Next}
@@ -41,7 +43,7 @@ module _ (m : Room) (g : Turn) (ps : List Place) (P : List Place → Type 0) (st
   moved-by i next.Removed h = ends i h
   moved-by i next.No h = stays
 
-  begun-by : (k : FlagKind) → ((j : ℕ) → holds (g .quad) (at ps j) ≡ false) → P (begun m g ps k .places)
+  begun-by : (k : FlagKind) → ((j : ℕ) → holds (g .quad) (at ps j) ≡ false) → P (begun m (g .quad) ps k .places)
   begun-by kind.Open none =
       cond-both (λ (d : Tracked). P (d .places)) (ltb (freeAt ps (m .places)) (m .places)) _ _
       (λ e. opens _ (ltb-true _ _ e) none)
@@ -49,22 +51,28 @@ module _ (m : Room) (g : Turn) (ps : List Place) (P : List Place → Type 0) (st
   begun-by kind.Carry none = stays
   begun-by kind.End none = stays
   begun-by kind.Reset none = stays
-  begun-by kind.Wrong none = stays
 
-  tracked-by : P (trackedIn m g ps .places)
-  unfolding trackedIn
-  tracked-by =
+  step-by : (k : FlagKind) → P (stepOf m (g .quad) ps k .places)
+  unfolding stepOf
+  step-by k =
       cond-both (λ (d : Tracked). P (d .places)) (ltb (heldAt (g .quad) ps) (length ps)) _ _
       (λ e.
       let i : ℕ = heldAt (g .quad) ps in
-      moved-by i (nextOf (phaseOf (at ps i .state)) (g .kind))
+      moved-by i (nextOf (phaseOf (at ps i .state)) k)
       (first-holds (λ j. holds (g .quad) (at ps j)) (length ps) (ltb-true _ _ e)))
-      (λ e. begun-by (g .kind) (λ j. none (ltb-false _ _ e) j))
+      (λ e. begun-by k (λ j. none (ltb-false _ _ e) j))
     where
       none : length ps ≤ heldAt (g .quad) ps → (j : ℕ) → holds (g .quad) (at ps j) ≡ false
       none h j =
           by-less j (length ps) (λ n. first-before (λ j. holds (g .quad) (at ps j)) (length ps) j (omega arith))
           (λ n. free-holds (g .quad) (at ps j) (ap isFree (List·getD-eq-default ps free n)))
+
+  tracked-by : P (tracked (tracking.Set m) g ps .places)
+  tracked-by = by (g .flags)
+    where
+      by : (x : Flags) → P (trackedIn m (g .quad) ps x .places)
+      by flags.Wrong = stays
+      by (flags.Kind k) = step-by k
 
 -- what a good table gives: an idle limit is at least 1
 abbrev pub LimitGood : Tracking → Type 0

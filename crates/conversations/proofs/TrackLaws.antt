@@ -8,14 +8,14 @@ use native.Mathlib.Omega.{arith}
 use borrow.Author.Tests.{lt-ltb, le-ltb}
 use Rattle.table.specs.declared.Room.{Room}
 use Rattle.places.specs.declared.Quad.{Quad}
-use Rattle.conversations.specs.declared.Turn.{Turn}
+use Rattle.flags.specs.declared.FlagKind.{FlagKind}
 use Rattle.flags.specs.declared.Phase.{Phase}
 use Rattle.flags.specs.declared.Phase.the-variants as phase
 use Rattle.flags.specs.declared.Next.{Next}
 use Rattle.conversations.specs.declared.Progress.{Progress}
 use Rattle.conversations.specs.declared.Progress.the-variants as progress
 use Rattle.places.specs.Places.{Place, free, placeOf, placesOf, heldAs, phaseOf}
-use Rattle.conversations.specs.Tracking.{Tracked, trackedAs, heldAt, freeAt, moved, opened, begun, trackedIn}
+use Rattle.conversations.specs.Tracking.{Tracked, trackedAs, heldAt, freeAt, moved, opened, begun, stepOf}
 use Rattle.flags.specs.Flags.{nextOf}
 use Rattle.numbers.proofs.Elements.{map-set}
 use Rattle.places.proofs.PlaceLaws.{place-at}
@@ -44,21 +44,21 @@ module _ (m : Room) (q : Quad) (ps : List (List ℕ)) (n i : ℕ) (many : n ≡ 
 
 -- ---- the conversation is held, or not
 
-module _ (m : Room) (g : Turn) (ps : List (List ℕ)) (i : ℕ) (found : i ≡ heldAt (g .quad) (placesOf ps)) (eight : length ps ≡ 8) where
+module _ (m : Room) (q : Quad) (k : FlagKind) (ps : List (List ℕ)) (i : ℕ) (found : i ≡ heldAt q (placesOf ps)) (eight : length ps ≡ 8) where
   many : length (placesOf ps) ≡ 8
   many = length-map ps placeOf ∙ eight
 
-  pub track-held : (x : Tracked) (s : ℕ) (f : Phase) (n : Next) → i < 8 → s ≡ placeOf (getD ps i []) .state → f ≡ phaseOf s → n ≡ nextOf f (g .kind)
-      → x ≡ moved (g .quad) (placesOf ps) i n → x ≡ trackedIn m g (placesOf ps)
-  unfolding trackedIn
-  track-held x s f n h e d k o =
-      let p : n ≡ nextOf (phaseOf (getD (placesOf ps) i free .state)) (g .kind) =
-      k ∙ ap (λ (y : Phase). nextOf y (g .kind)) (d ∙ ap phaseOf (e ∙ ap (λ (y : Place). y .state) (sym (place-at ps i)))) in
-      rw (lt-ltb (heldAt (g .quad) (placesOf ps)) (length (placesOf ps)) (omega (arith, many)))
+  pub step-held : (x : Tracked) (s : ℕ) (f : Phase) (n : Next) → i < 8 → s ≡ placeOf (getD ps i []) .state → f ≡ phaseOf s → n ≡ nextOf f k
+      → x ≡ moved q (placesOf ps) i n → x ≡ stepOf m q (placesOf ps) k
+  unfolding stepOf
+  step-held x s f n h e d t o =
+      let p : n ≡ nextOf (phaseOf (getD (placesOf ps) i free .state)) k =
+      t ∙ ap (λ (y : Phase). nextOf y k) (d ∙ ap phaseOf (e ∙ ap (λ (y : Place). y .state) (sym (place-at ps i)))) in
+      rw (lt-ltb (heldAt q (placesOf ps)) (length (placesOf ps)) (omega (arith, many)))
       (o
-      ∙ ap (moved (g .quad) (placesOf ps) i) p
-      ∙ ap (λ (j : ℕ). moved (g .quad) (placesOf ps) j (nextOf (phaseOf (getD (placesOf ps) j free .state)) (g .kind))) found)
+      ∙ ap (moved q (placesOf ps) i) p
+      ∙ ap (λ (j : ℕ). moved q (placesOf ps) j (nextOf (phaseOf (getD (placesOf ps) j free .state)) k)) found)
 
-  pub track-none : (x : Tracked) → 8 ≤ i → x ≡ begun m g (placesOf ps) (g .kind) → x ≡ trackedIn m g (placesOf ps)
-  unfolding trackedIn
-  track-none x h s = rw (le-ltb (heldAt (g .quad) (placesOf ps)) (length (placesOf ps)) (omega (arith, many))) s
+  pub step-none : (x : Tracked) → 8 ≤ i → x ≡ begun m q (placesOf ps) k → x ≡ stepOf m q (placesOf ps) k
+  unfolding stepOf
+  step-none x h s = rw (le-ltb (heldAt q (placesOf ps)) (length (placesOf ps)) (omega (arith, many))) s

@@ -14,6 +14,8 @@ use Rattle.places.specs.Places.{Place, free, isFree, holds, phaseOf, heldAs, pl
 use Rattle.places.specs.declared.Quad.{Quad}
 use Rattle.flags.specs.declared.FlagKind.{FlagKind}
 use Rattle.flags.specs.declared.FlagKind.the-variants as kind
+use Rattle.flags.specs.declared.Flags.{Flags}
+use Rattle.flags.specs.declared.Flags.the-variants as flags
 use Rattle.flags.specs.declared.Phase.the-variants as phase
 use Rattle.flags.specs.declared.Next.{Next}
 use Rattle.flags.specs.declared.Next.the-variants as next
@@ -30,11 +32,11 @@ pub record Tracked : Type 0 where
 abbrev pub trackedAs : Progress → List (List ℕ) → Tracked
 trackedAs v ps = record { progress = v; places = placesOf ps }
 
--- the conversation held at i takes its step
+-- the conversation held at i takes its step, or the frame is of "a kind not allowed in the state held"
 abbrev pub moved : Quad → List Place → ℕ → Next → Tracked
 moved q ps i (next.To f) = record { progress = progress.Holds; places = set ps i (heldAs q f) }
 moved q ps i next.Removed = record { progress = progress.Holds; places = set ps i free }
-moved q ps i next.No = record { progress = progress.WrongStep; places = ps }
+moved q ps i next.No = record { progress = progress.NotInState; places = ps }
 
 -- the first free place of n, or n where none is free
 abbrev pub freeAt : List Place → ℕ → ℕ
@@ -48,27 +50,29 @@ opened m q ps =
     (record { progress = progress.Holds; places = set ps i (heldAs q phase.Opening) })
     (record { progress = progress.NoPlaceFree; places = ps })
 
--- held as none: all kinds but open are a wrong step
-abbrev pub begun : Room → Turn → List Place → FlagKind → Tracked
-begun m g ps kind.Open = opened m (g .quad) ps
-begun m g ps kind.Carry = record { progress = progress.WrongStep; places = ps }
-begun m g ps kind.End = record { progress = progress.WrongStep; places = ps }
-begun m g ps kind.Reset = record { progress = progress.WrongStep; places = ps }
-begun m g ps kind.Wrong = record { progress = progress.WrongStep; places = ps }
+-- held as none: an open frame begins a conversation, for the other kinds there is "no such conversation"
+abbrev pub begun : Room → Quad → List Place → FlagKind → Tracked
+begun m q ps kind.Open = opened m q ps
+begun m q ps kind.Carry = record { progress = progress.NoConversation; places = ps }
+begun m q ps kind.End = record { progress = progress.NoConversation; places = ps }
+begun m q ps kind.Reset = record { progress = progress.NoConversation; places = ps }
 
 -- the place that holds the frame's conversation, or the number of places where none does
 abbrev pub heldAt : Quad → List Place → ℕ
 heldAt q ps = first (λ j. holds q (getD ps j free)) (length ps)
 
--- a rule that tracks
-unfoldable pub trackedIn : Room → Turn → List Place → Tracked
-trackedIn m g ps =
-    let i = heldAt (g .quad) ps in
-    cond (ltb i (length ps))
-    (moved (g .quad) ps i (nextOf (phaseOf (getD ps i free .state)) (g .kind)))
-    (begun m g ps (g .kind))
+-- a frame whose flags are a kind: a row of the table for its conversation, held or not
+unfoldable pub stepOf : Room → Quad → List Place → FlagKind → Tracked
+stepOf m q ps k =
+    let i = heldAt q ps in
+    cond (ltb i (length ps)) (moved q ps i (nextOf (phaseOf (getD ps i free .state)) k)) (begun m q ps k)
+
+-- a rule that tracks: "a wrong flag set, no such conversation, and a kind not allowed in the state held. Where two hold, the flag set comes first"
+abbrev pub trackedIn : Room → Quad → List Place → Flags → Tracked
+trackedIn m q ps flags.Wrong = record { progress = progress.WrongFlags; places = ps }
+trackedIn m q ps (flags.Kind k) = stepOf m q ps k
 
 -- a rule that tracks, or does not: then all holds
 abbrev pub tracked : Tracking → Turn → List Place → Tracked
 tracked tracking.Unset g ps = record { progress = progress.Holds; places = ps }
-tracked (tracking.Set m) g ps = trackedIn m g ps
+tracked (tracking.Set m) g ps = trackedIn m (g .quad) ps (g .flags)

@@ -2,18 +2,20 @@
 mod scan;
 pub mod track;
 
-use flags::FlagKind;
+use flags::Flags;
 use places::Quad;
 
 // What tracking looks at in a frame.
 pub struct Turn {
     pub quad: Quad,
-    pub kind: FlagKind,
+    pub flags: Flags,
 }
 
-// What tracking says of a frame.
+// What tracking says of a frame: it holds, or why not.
 pub enum Progress {
     Holds,
-    WrongStep,
+    WrongFlags,
+    NoConversation,
+    NotInState,
     NoPlaceFree,
 }

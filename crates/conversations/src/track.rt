@@ -3,10 +3,11 @@ ghost use mathlib.Core.Path.{_≡_};
 ghost use Prim.Native.Nat.{_<_, _≤_};
 ghost use Rattle.places.specs.Places.{placeOf, placesOf, free, heldAs};
 ghost use Rattle.table.specs.Table.{mostPlaces};
-ghost use Rattle.conversations.specs.Tracking.{heldAt, freeAt, moved, opened, begun, trackedIn, trackedAs};
+ghost use Rattle.conversations.specs.Tracking.{heldAt, freeAt, moved, opened, begun, stepOf, trackedIn, trackedAs};
 use crate::scan::find;
 use crate::*;
 use flags::FlagKind;
+use flags::Flags;
 use flags::Next;
 use flags::Phase;
 use flags::next_of;
@@ -73,7 +74,7 @@ fn move_place(q: Quad, n: Next, i: usize, ps: &mut RulePlaces) -> Progress
             release(&mut ps[i]);
             Progress::Holds
         }
-        Next::No => Progress::WrongStep,
+        Next::No => Progress::NotInState,
     }
 }
 
@@ -91,27 +92,24 @@ fn open_place(m: Room, q: Quad, ps: &mut RulePlaces) -> Progress
     Progress::NoPlaceFree
 }
 
-fn begin(m: Room, g: Turn, ps: &mut RulePlaces) -> Progress
+// No such conversation is held: an open frame begins it.
+fn begin(m: Room, q: Quad, k: FlagKind, ps: &mut RulePlaces) -> Progress
     requires { ⌜ m .places ≤ mostPlaces ⌝ }
-    ensures { λ v. ⌜ trackedAs v (now (ps .exit)) ≡ begun m g (placesOf (now (ps .entry))) (g .kind) ⌝ }
+    ensures { λ v. ⌜ trackedAs v (now (ps .exit)) ≡ begun m q (placesOf (now (ps .entry))) k ⌝ }
 {
-    let q = g.quad;
-    let k = g.kind;
     match k {
         FlagKind::Open => open_place(m, q, ps),
-        FlagKind::Carry => Progress::WrongStep,
-        FlagKind::End => Progress::WrongStep,
-        FlagKind::Reset => Progress::WrongStep,
-        FlagKind::Wrong => Progress::WrongStep,
+        FlagKind::Carry => Progress::NoConversation,
+        FlagKind::End => Progress::NoConversation,
+        FlagKind::Reset => Progress::NoConversation,
     }
 }
 
-pub fn track(m: Room, g: Turn, ps: &mut RulePlaces) -> Progress
+// A frame whose flags are a kind: a step of the conversation that is held, or of none.
+fn take_step(m: Room, q: Quad, k: FlagKind, ps: &mut RulePlaces) -> Progress
     requires { ⌜ m .places ≤ mostPlaces ⌝ }
-    ensures { λ v. ⌜ trackedAs v (now (ps .exit)) ≡ trackedIn m g (placesOf (now (ps .entry))) ⌝ }
+    ensures { λ v. ⌜ trackedAs v (now (ps .exit)) ≡ stepOf m q (placesOf (now (ps .entry))) k ⌝ }
 {
-    let q = g.quad;
-    let k = g.kind;
     tell_places(*ps);
     let i = find_quad(q, ps);
     if i < PLACES {
@@ -119,5 +117,18 @@ pub fn track(m: Room, g: Turn, ps: &mut RulePlaces) -> Progress
         let n = next_of(f, k);
         return move_place(q, n, i, ps);
     }
-    begin(m, g, ps)
+    begin(m, q, k, ps)
+}
+
+// The flags come first: wrong ones are told before a conversation is looked for.
+pub fn track(m: Room, g: Turn, ps: &mut RulePlaces) -> Progress
+    requires { ⌜ m .places ≤ mostPlaces ⌝ }
+    ensures { λ v. ⌜ trackedAs v (now (ps .exit)) ≡ trackedIn m (g .quad) (placesOf (now (ps .entry))) (g .flags) ⌝ }
+{
+    let q = g.quad;
+    let flags = g.flags;
+    match flags {
+        Flags::Wrong => Progress::WrongFlags,
+        Flags::Kind(k) => take_step(m, q, k, ps),
+    }
 }

@@ -22,7 +22,7 @@ use Rattle.records.specs.Good.{recordsGood}
 use Rattle.records.specs.Records.{Lent, recordsOf, wordsOf}
 use Rattle.flags.specs.Flags.{kindOf}
 use Rattle.places.specs.Places.{holds}
-use Rattle.conversations.specs.Tracking.{trackedIn}
+use Rattle.conversations.specs.Tracking.{stepOf}
 use Rattle.places.specs.Ageing.{agedPlace}
 use Rattle.verdicts.specs.Rule.{aged, decided, reacted}
 use Rattle.records.specs.Step.{freshOf, ticked, reactedAt, acted}
@@ -94,7 +94,8 @@ worded w k =
     listed (listed (listed number)) (w .places) (λ p. k (record { head = h; counts = c; places = p }))))
 
 abbrev saying : {B : Type 0} → Said → (Said → B) → B
-saying (refused r) k = number (r .number) (λ x. number (r .place) (λ y. k (refused (record { number = x; place = y }))))
+saying (refused r) k =
+    number (r .number) (λ x. number (r .place) (λ y. number (r .setting) (λ z. k (refused (record { number = x; place = y; setting = z })))))
 saying done k = k done
 saying (answered a b c) k = number a (λ x. number b (λ y. number c (λ z. k (answered x y z))))
 
@@ -116,7 +117,7 @@ worded-same w k =
     ∙ listed-same _ (listed-same _ (listed-same _ number-same)) (w .places) _
 
 saying-same : {B : Type 0} (x : Said) (k : Said → B) → saying x k ≡ k x
-saying-same (refused r) k = number-same (r .number) _ ∙ number-same (r .place) _
+saying-same (refused r) k = number-same (r .number) _ ∙ number-same (r .place) _ ∙ number-same (r .setting) _
 saying-same done k = refl
 saying-same (answered a b c) k = number-same a _ ∙ number-same b _ ∙ number-same c _
 
@@ -152,7 +153,7 @@ unfolding outcomes
 outcomes-same l = λ i. map (λ x. map (λ steps. byCalls-same (wordsOf (freshOf (x .start))) steps (λ r. r) i) (x .runs)) l
 
 computed : outcomesByCalls worked ≡ expectations worked
-unfolding be onesAdd onesSum firstFrom allBelow tagged linkOf ipv4Tests ipv4Here packetAt ipOf unfragmented tcpTests tcpHere udpTests udpHere segmentAt datagramAt transportAt transportOf someipTests someipHere messageAt someipAt someipOf layersOf tooShort shownOf prefixAgrees marked bucketOf trackingOf ruleTests freshId faulty marksGood statesGood faultOf scoreOf greatest bestOf linkMatches ipv4Matches transportMatches someipMatches layerTests ruleMatches decides deciderOf recordTests recordGood recordsGood recordsOf wordsOf agedPlace aged kindOf holds trackedIn decided reacted freshOf ticked reactedAt acted array eventBytes mismatchOf eventFor outcomeOf judgeOf go tell tableT hex frameA padded withType withPort frame0806 tcp ack1 synAck1 syn1 syn2 syn3 first13 tagged17 eventSpace m1 m2 m3 m4 rateEvent m5 m6 connectionsEvent m7 m8 m9 m10 m11 worked expectations
+unfolding be onesAdd onesSum firstFrom allBelow tagged linkOf ipv4Tests ipv4Here packetAt ipOf unfragmented tcpTests tcpHere udpTests udpHere segmentAt datagramAt transportAt transportOf someipTests someipHere messageAt someipAt someipOf layersOf tooShort shownOf prefixAgrees marked bucketOf trackingOf ruleTests freshId faulty marksGood statesGood faultOf scoreOf greatest bestOf linkMatches ipv4Matches transportMatches someipMatches layerTests ruleMatches decides deciderOf recordTests recordGood recordsGood recordsOf wordsOf agedPlace aged kindOf holds stepOf decided reacted freshOf ticked reactedAt acted array eventBytes mismatchOf eventFor outcomeOf judgeOf go tell tableT hex frameA padded withType withPort frame0806 tcp ack1 synAck1 syn1 syn2 syn3 first13 tagged17 eventSpace m1 m2 m3 m4 rateEvent m5 m6 connectionsEvent m7 m8 m9 m10 m11 worked expectations
 computed = refl
 
 -- "M1 to M11 are proved as one list with one theorem"

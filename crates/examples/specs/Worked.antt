@@ -156,13 +156,13 @@ m5 = record {
   changed = (at30, counts 2000 3 3) ∷ [];
 }
 
--- "M6 valid TCP from 443: ACK first, 4; SYN+ACK then ACK, 0 and 0, Running."
+-- "M6 valid TCP from 443: ACK first, 4; SYN+ACK then ACK, 0 and 0, Running." "M6's first becomes 41"
 -- 001: 63, FirewallRuleId
 unfoldable pub m6 : Example
 m6 = record {
   start = 0;
   runs =
-      (judged 0 ack1 (answered 4 20 4) (hex 2 63 ++ hex 2 20) ((state-of at20 0, vacant) ∷ [])
+      (judged 0 ack1 (answered 41 20 4) (hex 2 63 ++ hex 2 20) ((state-of at20 0, vacant) ∷ [])
       ∷ judged 0 synAck1 (answered 0 20 0) [] ((state-of at20 0, opening) ∷ [])
       ∷ judged 0 ack1 (answered 0 20 0) [] ((state-of at20 0, running) ∷ [])
       ∷ [])

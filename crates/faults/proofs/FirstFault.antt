@@ -4,49 +4,47 @@ use Prim.Native.Nat.{ℕ, _+_, _-_, _<_, _≤_}
 use mathlib.Core.Path.{_≡_, sym, ap, _∙_}
 use mathlib.Core.Bool.{Bool, true, false, not, cond}
 use borrow.Author.Tests.{lt-ltb, le-ltb}
-use Rattle.numbers.specs.Lists.{leading, firstFrom, first}
+use Rattle.numbers.specs.Lists.{firstFrom, first}
 use Rattle.numbers.proofs.Lists.{first-here, first-next, first-none}
-use Rattle.numbers.proofs.Leading.{not-all, all-pass}
 use Rattle.table.specs.Table.{mostRules, ruleAt}
-use Rattle.ranges.specs.Ranges.{ruleTests}
-use Rattle.faults.specs.Faults.{freshId, faulty, statesGood, faultOf}
+use Rattle.ranges.specs.declared.setting_number.SettingNumber.{SettingNumber}
+use Rattle.ranges.specs.Ranges.{faultIn}
+use Rattle.faults.specs.Faults.{freshId, testsAt, faulty, statesGood, tableFault, faultOf}
 use Rattle.table.specs.declared.Table.{Table}
 use Rattle.faults.specs.declared.Fault.the-variants as fault
-use Rattle.ranges.proofs.Rules.{rule-length}
+use Rattle.ranges.proofs.Tests.{one-fails, none-fails}
+use Rattle.ranges.proofs.Rules.{rule-named}
 
--- how many tests of the rule at i pass
-abbrev pub passed : Table → ℕ → ℕ
-passed t i = leading (ruleTests (freshId t i) (ruleAt t i))
-
-pub fault-count : (t : Table) → mostRules < t .rulecount → fault.At mostRules ≡ faultOf t
+pub fault-count : (t : Table) → mostRules < t .rulecount → fault.At tableFault ≡ faultOf t
 unfolding faultOf
 fault-count t h = rw (lt-ltb mostRules (t .rulecount) h)
 
 module _ (t : Table) (small : t .rulecount ≤ mostRules) where
   pub fault-here :
-      (i : ℕ) {n : ℕ} → i < t .rulecount
+      (i : ℕ) {n : SettingNumber} → i < t .rulecount
       → firstFrom (faulty t) i (t .rulecount - i) ≡ first (faulty t) (t .rulecount)
-      → n ≡ passed t i → n < 22 → fault.At i ≡ faultOf t
+      → n ≡ faultIn (testsAt t i) → (n .number ≡ 255 → ⊥) → fault.At (record { place = i; setting = n }) ≡ faultOf t
   unfolding faultOf faulty
   fault-here i h f e k =
-      let bad : faulty t i ≡ true = ap not (sym (not-all (ruleTests (freshId t i) (ruleAt t i)) e (rw (rule-length (freshId t i) (ruleAt t i)) k))) in
+      let bad : faulty t i ≡ true = ap not (one-fails (testsAt t i) (λ q. k (ap (λ (x : SettingNumber). x .number) e ∙ q))) in
       let g : first (faulty t) (t .rulecount) ≡ i = sym f ∙ first-here (faulty t) (t .rulecount) i h bad in
-      rw (g, lt-ltb i (t .rulecount) h, le-ltb mostRules (t .rulecount) small)
+      rw (g, lt-ltb i (t .rulecount) h, le-ltb mostRules (t .rulecount) small, e)
 
   pub fault-next :
-      (i : ℕ) {n : ℕ} → i < t .rulecount
+      (i : ℕ) {n : SettingNumber} → i < t .rulecount
       → firstFrom (faulty t) i (t .rulecount - i) ≡ first (faulty t) (t .rulecount)
-      → n ≡ passed t i → 22 ≤ n
+      → n ≡ faultIn (testsAt t i) → n .number ≡ 255
       → firstFrom (faulty t) (i + 1) (t .rulecount - (i + 1)) ≡ first (faulty t) (t .rulecount)
   unfolding faulty
   fault-next i h f e k =
-      let good : faulty t i ≡ false = ap not (sym (all-pass (ruleTests (freshId t i) (ruleAt t i)) e (rw (rule-length (freshId t i) (ruleAt t i)) k))) in
+      let good : faulty t i ≡ false =
+      ap not (none-fails (testsAt t i) (rule-named (freshId t i) (ruleAt t i)) (ap (λ (x : SettingNumber). x .number) (sym e) ∙ k)) in
       sym (first-next (faulty t) (t .rulecount) i h good) ∙ f
 
   pub fault-states :
       (i : ℕ) (b : Bool) → t .rulecount ≤ i
       → firstFrom (faulty t) i (t .rulecount - i) ≡ first (faulty t) (t .rulecount)
-      → b ≡ statesGood (t .rulecount) (t .statecount) (t .states) → cond b fault.Good (fault.At mostRules) ≡ faultOf t
+      → b ≡ statesGood (t .rulecount) (t .statecount) (t .states) → cond b fault.Good (fault.At tableFault) ≡ faultOf t
   unfolding faultOf
   fault-states i b h f e =
       let g : first (faulty t) (t .rulecount) ≡ i = sym f ∙ first-none (faulty t) (t .rulecount) i h in

@@ -6,43 +6,52 @@ use mathlib.Core.Bool.{Bool, true, false, cond, _&&_, false≢true}
 use native.Mathlib.Omega.{arith}
 use borrow.Author.Tests.{ltb-true, ltb-false, leb-true, not-false}
 use lib.Dec.{ltb, leb}
-use Rattle.numbers.specs.Lists.{every, first, allBelow}
-use Rattle.numbers.proofs.Lists.{and-both, every-at, below-at, first-before}
+use lib.ListN.{getD}
+use Rattle.numbers.specs.Lists.{first, allBelow}
+use Rattle.numbers.proofs.Lists.{and-both, below-at, first-before}
+use Rattle.numbers.proofs.Elements.{everyOf-any}
 use Rattle.table.specs.Settings.{Setting, unset, set, of8, of32, ofKind}
 use Rattle.table.specs.Table.{mostRules, mostStates, isAllow, isTcp, trackingFrom, trackingOf, ruleAt, stateAt, marked}
-use Rattle.ranges.specs.Ranges.{mayTrack, fromTo, knownAction, halfGood, ruleTests}
-use Rattle.faults.specs.Faults.{freshId, faulty, marksGood, stateGood, statesGood, faultOf}
+use Rattle.ranges.specs.Numbers as setting
+use Rattle.ranges.specs.Ranges.{mayTrack, fromTo, knownAction, halfGood, Test, test, good, ruleTests, allGood}
+use Rattle.faults.specs.Faults.{freshId, testsAt, faulty, marksGood, stateGood, statesGood, ruleFault, tableFault, faultOf}
 use Rattle.table.specs.declared.Rule.{Rule}
 use Rattle.table.specs.declared.Room.{Room}
 use Rattle.table.specs.declared.Table.{Table}
 use Rattle.table.specs.declared.Tracking.the-variants as tracking
+use Rattle.faults.specs.declared.AtFault.{AtFault}
 use Rattle.faults.specs.declared.Fault.the-variants as fault
+use Rattle.ranges.proofs.Rules.{fromTracking, tracking-good}
 use Rattle.table.proofs.Prefixes.{none-beyond}
 
 -- the count, the rules and the states are good
 no-fault :
-    (a b c : Bool) (i : ℕ) → cond a (fault.At mostRules) (cond b (fault.At i) (cond c fault.Good (fault.At mostRules))) ≡ fault.Good
+    (a b c : Bool) (x y : AtFault) → cond a (fault.At x) (cond b (fault.At y) (cond c fault.Good (fault.At x))) ≡ fault.Good
     → (a ≡ false) × (b ≡ false) × (c ≡ true)
-no-fault true b c i e = let z : _≡_ {A = ℕ} 0 1 = cc in absurd (omega arith)
-no-fault false true c i e = let z : _≡_ {A = ℕ} 0 1 = cc in absurd (omega arith)
-no-fault false false true i e = (refl, refl, refl)
-no-fault false false false i e = let z : _≡_ {A = ℕ} 0 1 = cc in absurd (omega arith)
+no-fault true b c x y e = let z : _≡_ {A = ℕ} 0 1 = cc in absurd (omega arith)
+no-fault false true c x y e = let z : _≡_ {A = ℕ} 0 1 = cc in absurd (omega arith)
+no-fault false false true x y e = (refl, refl, refl)
+no-fault false false false x y e = let z : _≡_ {A = ℕ} 0 1 = cc in absurd (omega arith)
 
-module _ (t : Table) (good : faultOf t ≡ fault.Good) where
+-- what stands beyond the last test
+abbrev noTest : Test
+noTest = test setting.none true
+
+module _ (t : Table) (whole : faultOf t ≡ fault.Good) where
   parts :
       (ltb mostRules (t .rulecount) ≡ false)
       × (ltb (first (faulty t) (t .rulecount)) (t .rulecount) ≡ false)
       × (statesGood (t .rulecount) (t .statecount) (t .states) ≡ true)
   unfolding faultOf
-  parts = no-fault (ltb mostRules (t .rulecount)) (ltb (first (faulty t) (t .rulecount)) (t .rulecount)) (statesGood (t .rulecount) (t .statecount) (t .states)) (first (faulty t) (t .rulecount)) good
+  parts = no-fault (ltb mostRules (t .rulecount)) (ltb (first (faulty t) (t .rulecount)) (t .rulecount)) (statesGood (t .rulecount) (t .statecount) (t .states)) tableFault (ruleFault t (first (faulty t) (t .rulecount))) whole
 
   pub good-count : t .rulecount ≤ mostRules
   good-count = ltb-false mostRules (t .rulecount) (parts .0)
 
-  pub good-rule : (i : ℕ) → i < t .rulecount → every (ruleTests (freshId t i) (ruleAt t i)) ≡ true
+  pub good-rule : (i : ℕ) → i < t .rulecount → allGood (testsAt t i) ≡ true
   unfolding faulty
   good-rule i h =
-      not-false (every (ruleTests (freshId t i) (ruleAt t i)))
+      not-false (allGood (testsAt t i))
       (first-before (faulty t) (t .rulecount) i (omega (arith, ltb-false (first (faulty t) (t .rulecount)) (t .rulecount) (parts .1))))
 
   states : (leb 1 (t .statecount) ≡ true) × (leb (t .statecount) mostStates && allBelow (stateGood (t .rulecount) (t .states)) (t .statecount) ≡ true)
@@ -69,7 +78,7 @@ module _ (t : Table) (good : faultOf t ≡ fault.Good) where
   pub good-id : (i : ℕ) → i < t .rulecount → ruleAt t i .id ≤ 65534
   unfolding ruleTests
   good-id i h =
-      leb-true (ruleAt t i .id) 65534 (and-both (leb (ruleAt t i .id) 65534) (freshId t i) (every-at (ruleTests (freshId t i) (ruleAt t i)) 0 (good-rule i h)) .0)
+      leb-true (ruleAt t i .id) 65534 (and-both (leb (ruleAt t i .id) 65534) (freshId t i) (everyOf-any good noTest refl (testsAt t i) (good-rule i h) 0) .0)
 
 -- "1-8 places and an idle limit of 1-600,000 ms"
 tracks :
@@ -86,10 +95,13 @@ tracks (set p) (set l) may m a b e =
     let v = and-both (leb 1 l) (leb l 600000) (and-both (fromTo 1 600000 l) true (h .0) .0) in
     ((rw (← f) (leb-true 1 p (u .0)), rw (← f) (leb-true p 8 (u .1)), rw (← f) (leb-true 1 l (v .0)), rw (← f) (leb-true l 600000 (v .1))), g .1)
 
-module _ (fresh : Bool) (r : Rule) (good : every (ruleTests fresh r) ≡ true) (m : Room) (e : trackingOf r ≡ tracking.Set m) where
+module _ (fresh : Bool) (r : Rule) (all : allGood (ruleTests fresh r) ≡ true) (m : Room) (e : trackingOf r ≡ tracking.Set m) where
+  half : (i : ℕ) → good (getD (fromTracking r) i noTest) ≡ true
+  half i = everyOf-any good noTest refl (fromTracking r) (tracking-good fresh r all) i
+
   tracked : ((1 ≤ m .places) × (m .places ≤ 8) × (1 ≤ m .limit) × (m .limit ≤ 600000)) × (mayTrack r ≡ true)
-  unfolding ruleTests trackingOf
-  tracked = tracks (of8 (r .tracking .places)) (of32 (r .tracking .limit)) (mayTrack r) m (every-at (ruleTests fresh r) 20 good) (every-at (ruleTests fresh r) 21 good) e
+  unfolding trackingOf
+  tracked = tracks (of8 (r .tracking .places)) (of32 (r .tracking .limit)) (mayTrack r) m (half 0) (half 1) e
 
   pub good-tracking : (1 ≤ m .places) × (m .places ≤ 8) × (1 ≤ m .limit) × (m .limit ≤ 600000)
   good-tracking = tracked .0

@@ -1,4 +1,4 @@
--- When a table is bad, and where its first fault stands. Document 01, 'Rules and vehicle states' and refusal 4.
+-- When a table is bad, and where its first fault stands. Document 01, 'Rules and vehicle states' and refusal 4; change request 1/12.
 -- Assumes nothing.
 use Prim.Native.Nat.{ℕ, _/_, _^_, _<_}
 use mathlib.Core.Path.{_≡_}
@@ -6,10 +6,12 @@ use mathlib.Core.List.{List}
 use mathlib.Core.Bool.{Bool, cond, _&&_, not}
 use lib.ListN.{getD}
 use lib.Dec.{leb, ltb, eqb}
-use Rattle.numbers.specs.Lists.{every, first, allBelow}
-use Rattle.ranges.specs.Ranges.{knownAction, ruleTests}
+use Rattle.numbers.specs.Lists.{first, allBelow}
+use Rattle.ranges.specs.Numbers.{none}
+use Rattle.ranges.specs.Ranges.{knownAction, Test, ruleTests, allGood, faultIn}
 use Rattle.table.specs.declared.State.{State}
 use Rattle.table.specs.declared.Table.{Table}
+use Rattle.faults.specs.declared.AtFault.{AtFault}
 use Rattle.faults.specs.declared.Fault.{Fault}
 use Rattle.faults.specs.declared.Fault.the-variants as fault
 use Rattle.table.specs.Table.{mostRules, mostStates, noState, ruleAt}
@@ -25,8 +27,12 @@ freshId t i = allBelow (otherId t i) i
 abbrev pub Listed : Table → List ℕ → ℕ → Type 0
 Listed t l n = (j : ℕ) → j < n → getD l j 0 ≡ ruleAt t j .id
 
+-- the tests of the rule at i; it is at fault if not all of them pass
+abbrev pub testsAt : Table → ℕ → List Test
+testsAt t i = ruleTests (freshId t i) (ruleAt t i)
+
 unfoldable pub faulty : Table → ℕ → Bool
-faulty t i = not (every (ruleTests (freshId t i) (ruleAt t i)))
+faulty t i = not (allGood (testsAt t i))
 
 -- "a state marks a place without a rule"
 unfoldable pub marksGood : ℕ → ℕ → Bool
@@ -41,10 +47,18 @@ unfoldable pub statesGood : ℕ → ℕ → List State → Bool
 statesGood rulecount statecount states =
     leb 1 statecount && (leb statecount mostStates && allBelow (stateGood rulecount states) statecount)
 
--- "the place of the first rule at fault; 64 where the fault is in the states or the rule count": "rule count, then rules, then states"
+-- "A refused table also names the first setting at fault in 01's order within the first rule at fault"
+abbrev pub ruleFault : Table → ℕ → AtFault
+ruleFault t i = record { place = i; setting = faultIn (testsAt t i) }
+
+-- "64 where the fault is in the states or the rule count"; they "name none"
+abbrev pub tableFault : AtFault
+tableFault = record { place = mostRules; setting = none }
+
+-- "rule count, then rules, then states"
 unfoldable pub faultOf : Table → Fault
 faultOf t =
     let i = first (faulty t) (t .rulecount) in
-    cond (ltb mostRules (t .rulecount)) (fault.At mostRules)
-    (cond (ltb i (t .rulecount)) (fault.At i)
-    (cond (statesGood (t .rulecount) (t .statecount) (t .states)) fault.Good (fault.At mostRules)))
+    cond (ltb mostRules (t .rulecount)) (fault.At tableFault)
+    (cond (ltb i (t .rulecount)) (fault.At (ruleFault t i))
+    (cond (statesGood (t .rulecount) (t .statecount) (t .states)) fault.Good (fault.At tableFault)))

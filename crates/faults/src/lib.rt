@@ -8,17 +8,30 @@ ghost use Rattle.numbers.specs.Lists.{allBelow, countBelow};
 ghost use Rattle.table.specs.Table.{mostRules, mostStates};
 ghost use Rattle.table.specs.Words.{tableIn};
 ghost use Rattle.faults.specs.Faults.{marksGood, stateGood, statesGood, Listed, faultOf};
-use ranges::RULE_TESTS;
-use ranges::rule_passed;
+use ranges::rule_fault;
+use ranges::setting_number::SettingNumber;
 use ranges::within::action_good;
 use table::words::*;
 use table::*;
 
-// Where the first fault stands: a rule's place, or RULES for the states or the rule count.
+// Where the first fault stands: a rule's place and its setting, or RULES and no setting for the states or the rule count.
+pub struct AtFault {
+    pub place: usize,
+    pub setting: SettingNumber,
+}
+
 pub enum Fault {
     Good,
-    At(usize),
+    At(AtFault),
 }
+
+// The fault is in the states or the rule count.
+const IN_NO_RULE: AtFault = AtFault {
+    place: RULES,
+    setting: SettingNumber::NONE,
+};
+
+const NONE: u8 = SettingNumber::NONE.number;
 
 // The id of no good rule: it stands behind the last.
 const NO_ID: u16 = 65535;
@@ -124,18 +137,19 @@ pub fn first_fault(t: &TableWords) -> Fault
     tell_table(*t);
     let count = rulecount(t);
     if RULES < count {
-        return Fault::At(RULES);
+        return Fault::At(IN_NO_RULE);
     }
     let ids = ids_of(t, count);
     let mut i = 0;
     while i < count {
-        if rule_passed(is_new(&ids, i), &t[i]) < RULE_TESTS {
-            return Fault::At(i);
+        let setting = rule_fault(is_new(&ids, i), &t[i]);
+        if setting.number != NONE {
+            return Fault::At(AtFault { place: i, setting });
         }
         i += 1;
     }
     if states_good(t, count, statecount(t)) {
         return Fault::Good;
     }
-    Fault::At(RULES)
+    Fault::At(IN_NO_RULE)
 }

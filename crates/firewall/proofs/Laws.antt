@@ -15,6 +15,7 @@ use Rattle.layers.specs.declared.Shown.the-variants as shown
 use Rattle.layers.specs.Layers.{shownOf}
 use Rattle.layers.specs.Seen.{seen}
 use Rattle.table.specs.declared.Table.{Table}
+use Rattle.faults.specs.declared.AtFault.{AtFault}
 use Rattle.faults.specs.declared.Fault.{Fault}
 use Rattle.faults.specs.declared.Fault.the-variants as fault
 use Rattle.faults.specs.Faults.{faultOf}
@@ -49,9 +50,9 @@ use Rattle.firewall.specs.Firewall.{
 -- ---- check
 
 module _ (t : Table) (w : Lent) where
-  pub check-table : (place : ℕ) → faultOf t ≡ fault.At place → badTable place ≡ checkOf t w
+  pub check-table : (f : AtFault) → faultOf t ≡ fault.At f → badTable f ≡ checkOf t w
   unfolding checkOf
-  check-table place e = rw e
+  check-table f e = rw e
 
   pub check-record : faultOf t ≡ fault.Good → recordsGood t (recordsOf w) ≡ false → badRecord ≡ checkOf t w
   unfolding checkOf
@@ -64,14 +65,14 @@ module _ (t : Table) (w : Lent) where
 -- what is refused was refused by the check
 first-refused :
     {A : Type 0} (say : Said → A) (rest : A) (r : Refusal) (f : Fault) (b : Bool) → refused r ≡ ifTable f badTable (cond b done badRecord)
-    → say (refused r) ≡ ifTable f (λ place. say (badTable place)) (cond b rest (say badRecord))
-first-refused say rest r (fault.At place) b e = ap say e
+    → say (refused r) ≡ ifTable f (λ x. say (badTable x)) (cond b rest (say badRecord))
+first-refused say rest r (fault.At x) b e = ap say e
 first-refused say rest r fault.Good false e = ap say e
 first-refused say rest r fault.Good true e = let z : _≡_ {A = ℕ} 0 1 = cc in absurd (omega arith)
 
 -- and what is not refused is good
 none-refused : (f : Fault) (b : Bool) → done ≡ ifTable f badTable (cond b done badRecord) → (f ≡ fault.Good) × (b ≡ true)
-none-refused (fault.At place) b e = let z : _≡_ {A = ℕ} 0 1 = cc in absurd (omega arith)
+none-refused (fault.At x) b e = let z : _≡_ {A = ℕ} 0 1 = cc in absurd (omega arith)
 none-refused fault.Good false e = let z : _≡_ {A = ℕ} 0 1 = cc in absurd (omega arith)
 none-refused fault.Good true e = (refl, refl)
 
@@ -82,9 +83,9 @@ checked-good t w e = none-refused (faultOf t) (recordsGood t (recordsOf w)) e
 -- ---- fresh
 
 module _ (t : Table) (reading : ℕ) (w : Lent) where
-  pub start-refused : (place : ℕ) → faultOf t ≡ fault.At place → leaves (badTable place) w ≡ startOf t reading w
+  pub start-refused : (f : AtFault) → faultOf t ≡ fault.At f → leaves (badTable f) w ≡ startOf t reading w
   unfolding startOf
-  start-refused place e = rw e
+  start-refused f e = rw e
 
   pub start-fresh :
       (after : Lent) → faultOf t ≡ fault.Good → Shaped after → recordsOf after ≡ freshOf reading

@@ -1,4 +1,4 @@
--- The entry points: what each call says and leaves, for every input. Document 01, 'Verdicts, events, refusals'.
+-- The entry points: what each call says and leaves, for every input. Document 01, 'Verdicts, events, refusals'; change request 1/12.
 -- Assumes nothing.
 use Prim.Native.Nat.{ℕ}
 use mathlib.Core.List.{List}
@@ -10,6 +10,7 @@ use Rattle.layers.specs.declared.FrameRefusal.{FrameRefusal}
 use Rattle.layers.specs.declared.Shown.{Shown}
 use Rattle.layers.specs.declared.Shown.the-variants as shown
 use Rattle.table.specs.declared.Table.{Table}
+use Rattle.faults.specs.declared.AtFault.{AtFault}
 use Rattle.faults.specs.declared.Fault.{Fault}
 use Rattle.faults.specs.declared.Fault.the-variants as fault
 use Rattle.faults.specs.Faults.{faultOf}
@@ -28,7 +29,7 @@ use Rattle.firewall.specs.declared.Switched.the-variants as switched
 use Rattle.firewall.specs.declared.Judged.{Judged}
 use Rattle.firewall.specs.declared.Judged.the-variants as judged
 
--- What the paper says of a call: a refusal, by its number and the place where 4 names one; done, where there is no more to say;
+-- What the paper says of a call: a refusal, by its number and the two that 4 carries; done, where there is no more to say;
 -- or "verdict, the deciding rule's id and event length"
 pub data Said : Type 0 where
   refused : Refusal → Said
@@ -54,7 +55,11 @@ saidJudged (judged.Answered a) = answered (a .verdict .number) (a .rule) (a .len
 
 -- the refusals, each "given exactly when"; all but 4 have a number alone
 abbrev pub plain : ℕ → Refusal
-plain n = record { number = n; place = 0 }
+plain n = record { number = n; place = 0; setting = 0 }
+
+-- "4 now carries two numbers"
+abbrev pub atFault : AtFault → Refusal
+atFault f = record { number = 4; place = f .place; setting = f .setting .number }
 
 abbrev pub badFrame : FrameRefusal → Said
 badFrame f = refused (plain (refusalNumber f))
@@ -62,8 +67,8 @@ badFrame f = refused (plain (refusalNumber f))
 abbrev pub noSpace : Said
 noSpace = refused (plain 3)
 
-abbrev pub badTable : ℕ → Said
-badTable place = refused (record { number = 4; place = place })
+abbrev pub badTable : AtFault → Said
+badTable f = refused (atFault f)
 
 abbrev pub badRecord : Said
 badRecord = refused (plain 5)
@@ -91,22 +96,22 @@ abbrev pub leaves : Said → Lent → AfterCall
 leaves x w = record { said = x; words = w }
 
 -- "Order: 4, 5, 6, 1, 2, 3, each where the call has that argument": a bad table is refused, or the rest goes on
-abbrev pub ifTable : {A : Type 0} → Fault → (ℕ → A) → A → A
-ifTable (fault.At place) refuse rest = refuse place
+abbrev pub ifTable : {A : Type 0} → Fault → (AtFault → A) → A → A
+ifTable (fault.At f) refuse rest = refuse f
 ifTable fault.Good refuse rest = rest
 
--- "bad rule table, with the place of the first rule at fault", then "bad record"
+-- "bad rule table, with the place of the first rule at fault" and its first setting at fault, then "bad record"
 unfoldable pub checkOf : Table → Lent → Said
 checkOf t w = ifTable (faultOf t) badTable (cond (recordsGood t (recordsOf w)) done badRecord)
 
 -- a fresh record; "A refusal returns its number and no verdict. The records .. then hold what they held"
 unfoldable pub startOf : Table → ℕ → Lent → AfterCall
-startOf t reading w = ifTable (faultOf t) (λ place. leaves (badTable place) w) (leaves done (wordsOf (freshOf reading)))
+startOf t reading w = ifTable (faultOf t) (λ f. leaves (badTable f) w) (leaves done (wordsOf (freshOf reading)))
 
 -- a switch of vehicle state, "4, 5, 6"
 unfoldable pub switchOf : Table → ℕ → Lent → AfterCall
 switchOf t state w =
-    ifTable (faultOf t) (λ place. leaves (badTable place) w)
+    ifTable (faultOf t) (λ f. leaves (badTable f) w)
     (cond (recordsGood t (recordsOf w))
     (cond (ltb state (t .statecount)) (leaves done (wordsOf (switchedTo state (recordsOf w)))) (leaves noSuchState w))
     (leaves badRecord w))
@@ -126,5 +131,5 @@ afterFrame t w a space (shown.Shows l) =
 -- "4, 5", then the frame
 unfoldable pub judgeOf : Table → Lent → Arrival → List ℕ → After
 judgeOf t w a space =
-    ifTable (faultOf t) (λ place. says (badTable place) w space)
+    ifTable (faultOf t) (λ f. says (badTable f) w space)
     (cond (recordsGood t (recordsOf w)) (afterFrame t w a space (shownOf (a .bytes))) (says badRecord w space))

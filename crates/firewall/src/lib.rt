@@ -66,13 +66,13 @@ pub fn check(t: &TableWords, head: &Head, counts: &Counts, places: &Places) -> C
     ensures { λ r. ⌜ saidChecked r ≡ checkOf (tableIn (now (t .entry))) (before head counts places) ⌝ }
 {
     let f = first_fault(t);
-    let Fault::At(place) = f else {
+    let Fault::At(at) = f else {
         if records::good::good(t, head, counts, places) {
             return Checked::Good;
         }
         return Checked::Refused(Refusal::bad_record());
     };
-    Checked::Refused(Refusal::bad_table(place))
+    Checked::Refused(Refusal::bad_table(at))
 }
 
 // A fresh record: state 0, all else empty or zero.
@@ -86,12 +86,12 @@ pub fn fresh(
     ensures { λ r. ⌜ leaves (saidStarted r) (after head counts places) ≡ startOf (tableIn (now (t .entry))) reading (before head counts places) ⌝ }
 {
     let f = first_fault(t);
-    let Fault::At(place) = f else {
+    let Fault::At(at) = f else {
         records::fresh::fresh(reading, head, counts, places);
         shape(*head, *counts, *places);
         return Started::Fresh;
     };
-    Started::Refused(Refusal::bad_table(place))
+    Started::Refused(Refusal::bad_table(at))
 }
 
 // A switch of vehicle state changes only the active state.

@@ -1,13 +1,16 @@
 // The refusals of the paper.
 ghost use mathlib.Core.Path.{_≡_};
 ghost use Rattle.layers.specs.Layers.{refusalNumber};
-ghost use Rattle.firewall.specs.Firewall.{plain};
+ghost use Rattle.firewall.specs.Firewall.{plain, atFault};
+use faults::AtFault;
 use layers::FrameRefusal;
 
-// A refusal's number, and for a bad table the place of the first rule at fault, 64 for the states or the rule count; else 0.
+// A refusal's number; and for a bad table the place of the first rule at fault and the number of its first setting at fault,
+// 64 and 255 for the states or the rule count. Both are 0 for the other refusals.
 pub struct Refusal {
     pub number: u8,
     pub place: usize,
+    pub setting: u8,
 }
 
 impl Refusal {
@@ -29,6 +32,7 @@ impl Refusal {
         Refusal {
             number: Refusal::TOO_SHORT,
             place: 0,
+            setting: 0,
         }
     }
 
@@ -38,6 +42,7 @@ impl Refusal {
         Refusal {
             number: Refusal::TOO_LONG,
             place: 0,
+            setting: 0,
         }
     }
 
@@ -47,15 +52,18 @@ impl Refusal {
         Refusal {
             number: Refusal::NO_SPACE,
             place: 0,
+            setting: 0,
         }
     }
 
-    pub(crate) fn bad_table(place: usize) -> Refusal
-        ensures { λ r. ⌜ r ≡ record { number = 4; place = place } ⌝ }
+    pub(crate) fn bad_table(f: AtFault) -> Refusal
+        ensures { λ r. ⌜ r ≡ atFault f ⌝ }
     {
+        let setting = f.setting;
         Refusal {
             number: Refusal::BAD_TABLE,
-            place,
+            place: f.place,
+            setting: setting.number,
         }
     }
 
@@ -65,6 +73,7 @@ impl Refusal {
         Refusal {
             number: Refusal::BAD_RECORD,
             place: 0,
+            setting: 0,
         }
     }
 
@@ -74,6 +83,7 @@ impl Refusal {
         Refusal {
             number: Refusal::NO_SUCH_STATE,
             place: 0,
+            setting: 0,
         }
     }
 

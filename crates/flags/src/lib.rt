@@ -2,13 +2,18 @@
 ghost use mathlib.Core.Path.{_≡_};
 ghost use Rattle.flags.specs.Flags.{kindOf, nextOf};
 
-// What the four flags count as.
+// The kinds that the four flags can count as.
 pub enum FlagKind {
-    Wrong,
     Open,
     Carry,
     End,
     Reset,
+}
+
+// What they do count as: no kind, which is wrong, or one of the kinds.
+pub enum Flags {
+    Wrong,
+    Kind(FlagKind),
 }
 
 // The state of a conversation that is held.
@@ -18,32 +23,32 @@ pub enum Phase {
     Closing,
 }
 
-// A step of the table: not allowed, the conversation removed, or its next state.
+// A step of the table: not allowed in this state, the conversation removed, or its next state.
 pub enum Next {
     No,
     Removed,
     To(Phase),
 }
 
-pub fn flag_kind(fin: bool, syn: bool, rst: bool, ack: bool) -> FlagKind
+pub fn flag_kind(fin: bool, syn: bool, rst: bool, ack: bool) -> Flags
     ensures { λ r. ⌜ r ≡ kindOf fin syn rst ack ⌝ }
 {
     if syn & !fin & !rst {
-        return FlagKind::Open;
+        return Flags::Kind(FlagKind::Open);
     }
     if rst & !syn & !fin {
-        return FlagKind::Reset;
+        return Flags::Kind(FlagKind::Reset);
     }
     if fin & ack & !syn & !rst {
-        return FlagKind::End;
+        return Flags::Kind(FlagKind::End);
     }
     if ack & !fin & !syn & !rst {
-        return FlagKind::Carry;
+        return Flags::Kind(FlagKind::Carry);
     }
-    FlagKind::Wrong
+    Flags::Wrong
 }
 
-// The table of the paper.
+// The table of the paper, for a conversation that is held.
 pub fn next_of(f: Phase, k: FlagKind) -> Next
     ensures { λ r. ⌜ r ≡ nextOf f k ⌝ }
 {
@@ -53,21 +58,18 @@ pub fn next_of(f: Phase, k: FlagKind) -> Next
             FlagKind::Carry => Next::To(Phase::Running),
             FlagKind::End => Next::To(Phase::Closing),
             FlagKind::Reset => Next::Removed,
-            FlagKind::Wrong => Next::No,
         },
         Phase::Running => match k {
             FlagKind::Open => Next::No,
             FlagKind::Carry => Next::To(Phase::Running),
             FlagKind::End => Next::To(Phase::Closing),
             FlagKind::Reset => Next::Removed,
-            FlagKind::Wrong => Next::No,
         },
         Phase::Closing => match k {
             FlagKind::Open => Next::No,
             FlagKind::Carry => Next::To(Phase::Closing),
             FlagKind::End => Next::To(Phase::Closing),
             FlagKind::Reset => Next::Removed,
-            FlagKind::Wrong => Next::No,
         },
     }
 }

@@ -3,11 +3,11 @@
 use Prim.Native.Nat.{ℕ, zero, suc, _<_, _≤_, _+_}
 use native.Mathlib.Omega.{arith}
 use native.Mathlib.Numerals.{add-one}
-use mathlib.Core.Path.{_≡_, refl, sym}
-use mathlib.Core.Bool.{Bool, true, false, _&&_, _||_, true≢false}
+use mathlib.Core.Path.{_≡_, refl, sym, ap, _∙_}
+use mathlib.Core.Bool.{Bool, true, false, cond, not, _&&_, _||_, true≢false}
 use lib.Bits.{bitOr, or-add-and, and-le-l, and-le-r}
 use lib.Dec.{ltb, eqb}
-use borrow.Author.Tests.{ltb-true, ltb-false, eqb-true, eq-eqb}
+use borrow.Author.Tests.{ltb-true, ltb-false, eqb-true, eq-eqb, not-true, not-false}
 use Rattle.numbers.specs.Lists.{allBelow}
 use Rattle.numbers.proofs.Lists.{and-both, and-true-true}
 
@@ -18,6 +18,16 @@ by-test false f g = g refl
 
 pub by-less : {P : Type 0} (a b : ℕ) → (a < b → P) → (b ≤ a → P) → P
 by-less a b f g = by-test (ltb a b) (λ e. f (ltb-true a b e)) (λ e. g (ltb-false a b e))
+
+-- a chain of tests, of which the code tells the result r of this one: it fails, and y stands there; it passes, and the rest x decides; it always passes
+pub cond-stops : {A : Type 0} {r b : Bool} {y : A} (x : A) → r ≡ b → not r ≡ true → y ≡ cond b x y
+cond-stops {r = r} {y = y} x e h = ap (λ (z : Bool). cond z x y) (sym (not-true r h) ∙ e)
+
+pub cond-goes : {A : Type 0} {r b : Bool} {m x : A} (y : A) → r ≡ b → not r ≡ false → m ≡ x → m ≡ cond b x y
+cond-goes {r = r} {x = x} y e h k = k ∙ ap (λ (z : Bool). cond z x y) (sym (not-false r h) ∙ e)
+
+pub cond-skips : {A : Type 0} {b : Bool} {m x : A} (y : A) → b ≡ true → m ≡ x → m ≡ cond b x y
+cond-skips {x = x} y e k = k ∙ ap (λ (z : Bool). cond z x y) (sym e)
 
 pub or-first : (a b : Bool) → a ≡ true → (a || b) ≡ true
 or-first a b e = rw e

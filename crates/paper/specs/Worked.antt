@@ -18,12 +18,12 @@ passed rule = Quiet 0 rule
 abbrev pub blocked : ℕ → Expected
 blocked rule = Quiet 2 rule
 
--- "3 gives event 64 and 4 gives 63. 5 gives 001's event for too many TCP connections": 61
+-- "3 gives event 64", "Event 63 stays" for 41, "5 gives 001's event for too many TCP connections": 61
 abbrev pub overRate : ℕ → Expected
 overRate rule = Event 3 rule 64 rule 10
 
-abbrev pub wrongStep : ℕ → Expected
-wrongStep rule = Event 4 rule 63 rule 4
+abbrev pub noConversation : ℕ → Expected
+noConversation rule = Event 41 rule 63 rule 4
 
 abbrev pub noPlaceFree : ℕ → Expected
 noPlaceFree rule = Event 5 rule 61 rule 28
@@ -62,8 +62,8 @@ lines =
     ∷ follows 5 1000 frame.Ether0806 (overRate 30)
     ∷ follows 5 2000 frame.Ether0806 (overRate 30)
     ∷ follows 5 4000 frame.Ether0806 (passed 30)
-    -- "M6 valid TCP from 443: ACK first, 4; SYN+ACK then ACK, 0 and 0"
-    ∷ begins 6 0 frame.Ack1 (wrongStep 20)
+    -- "M6 valid TCP from 443: ACK first, 4; SYN+ACK then ACK, 0 and 0"; "M6's first becomes 41"
+    ∷ begins 6 0 frame.Ack1 (noConversation 20)
     ∷ follows 6 0 frame.SynAck1 (passed 20)
     ∷ follows 6 0 frame.Ack1 (passed 20)
     -- "M7 two held, a third SYN: 5. After 999 ms idle still held; after 1,000 removed, and the SYN passes."

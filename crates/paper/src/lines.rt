@@ -44,8 +44,8 @@ const OVER_RATE: Expected = Expected::Event {
     length: 10,
 };
 
-const WRONG_STEP: Expected = Expected::Event {
-    verdict: 4,
+const NO_CONVERSATION: Expected = Expected::Event {
+    verdict: 41,
     rule: 20,
     number: 63,
     named: 20,
@@ -138,9 +138,9 @@ fn m5(k: usize) -> Line
     line_of(M5[k - 4])
 }
 
-// "M6 valid TCP from 443: ACK first, 4; SYN+ACK then ACK, 0 and 0".
+// "M6 valid TCP from 443: ACK first, 41; SYN+ACK then ACK, 0 and 0".
 const M6: [Row; 3] = [
-    Row(6, true, 0, Frame::Ack1, WRONG_STEP),
+    Row(6, true, 0, Frame::Ack1, NO_CONVERSATION),
     Row(6, false, 0, Frame::SynAck1, PASSED_20),
     Row(6, false, 0, Frame::Ack1, PASSED_20),
 ];

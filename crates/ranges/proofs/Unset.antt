@@ -1,4 +1,4 @@
--- Where no mark of a layer stands, none of its settings is set, and all its tests pass.
+-- Where no mark of a layer stands, none of its settings is set, and none is at fault.
 -- Assumes nothing.
 use Prim.Native.Nat.{ℕ, _+_, _-_, _/_, _%_, _^_, _<_}
 use mathlib.Core.Path.{_≡_, sym, ap, _∙_}
@@ -9,9 +9,9 @@ use native.Mathlib.Omega.{arith}
 use borrow.Author.Tests.{eqb-true, ne-eqb}
 use lib.Dec.{eqb}
 use lib.Pow.{field, mod-mod-pow}
-use Rattle.numbers.specs.Lists.{leading}
 use Rattle.table.specs.Table.{marked}
-use Rattle.ranges.specs.Ranges.{linkTests, ipv4Tests, transportTests, rateTests, trackingTests}
+use Rattle.ranges.specs.Ranges.{linkTests, ipv4Tests, transportTests, rateTests, trackingTests, faultIn}
+use Rattle.ranges.specs.Numbers.{none}
 use Rattle.table.specs.Words.{
   linkWord,
   ipWord,
@@ -51,24 +51,24 @@ module _ (w : List ℕ) where
       ne-eqb (word w layer / 2 ^ bit % 2) 1 (λ q. absurd (omega arith))
 
   module _ {b : Bool} (f : b ≡ true) where
-    pub link-unset : b ≡ eqb (word w linkWord % 256) 0 → 5 ≡ leading (linkTests (linkIn w))
+    pub link-unset : b ≡ eqb (word w linkWord % 256) 0 → none ≡ faultIn (linkTests (linkIn w))
     unfolding setting8In setting16In setting64In
     link-unset e =
         rw (none-set linkWord 0 e f (omega arith), none-set linkWord 1 e f (omega arith), none-set linkWord 2 e f (omega arith), none-set linkWord 3 e f (omega arith), none-set linkWord 4 e f (omega arith))
 
-    pub ipv4-unset : b ≡ eqb (word w ipWord % 256) 0 → 3 ≡ leading (ipv4Tests (ipv4In w))
+    pub ipv4-unset : b ≡ eqb (word w ipWord % 256) 0 → none ≡ faultIn (ipv4Tests (ipv4In w))
     unfolding setting8In prefixIn
     ipv4-unset e = rw (none-set ipWord 0 e f (omega arith), none-set ipWord 1 e f (omega arith), none-set ipWord 2 e f (omega arith))
 
-    pub transport-unset : b ≡ eqb (word w transportWord % 256) 0 → 3 ≡ leading (transportTests (transportIn w))
+    pub transport-unset : b ≡ eqb (word w transportWord % 256) 0 → none ≡ faultIn (transportTests (transportIn w))
     unfolding kindSettingIn rangeIn
     transport-unset e =
         rw (none-set transportWord 0 e f (omega arith), none-set transportWord 1 e f (omega arith), none-set transportWord 2 e f (omega arith))
 
-    pub rate-unset : b ≡ eqb (word w rateWord % 256) 0 → 2 ≡ leading (rateTests (rateIn w))
+    pub rate-unset : b ≡ eqb (word w rateWord % 256) 0 → none ≡ faultIn (rateTests (rateIn w))
     unfolding setting16In
     rate-unset e = rw (none-set rateWord 0 e f (omega arith), none-set rateWord 1 e f (omega arith))
 
-    pub tracking-unset : b ≡ eqb (word w trackingWord % 256) 0 → (may : Bool) → 2 ≡ leading (trackingTests (trackingIn w) may)
+    pub tracking-unset : b ≡ eqb (word w trackingWord % 256) 0 → (may : Bool) → none ≡ faultIn (trackingTests (trackingIn w) may)
     unfolding setting8In setting32In
     tracking-unset e may = rw (none-set trackingWord 0 e f (omega arith), none-set trackingWord 1 e f (omega arith))

@@ -1,9 +1,10 @@
--- When a rule is bad by itself: its settings in the paper's order, each with its test. Document 01, 'Rules and vehicle states'.
+-- When a rule is bad by itself: its settings in the paper's order, each with its test. Document 01, 'Rules and vehicle states'; change request 1/12.
 -- Assumes nothing.
 use Prim.Native.Nat.{ℕ}
 use mathlib.Core.List.{List, [], _∷_, _++_}
-use mathlib.Core.Bool.{Bool, true, false, _&&_, _||_}
+use mathlib.Core.Bool.{Bool, true, false, cond, _&&_, _||_}
 use lib.Dec.{leb}
+use Rattle.numbers.specs.Lists.{everyOf}
 use Rattle.table.specs.Settings.{Setting, of8, of16, of32, of64, ofKind, ofRange, ofPrefix, isUnset, within, paired}
 use Rattle.table.specs.declared.Action.{Action}
 use Rattle.table.specs.declared.Action.the-variants as action
@@ -21,6 +22,8 @@ use Rattle.table.specs.declared.RateSettings.{RateSettings}
 use Rattle.table.specs.declared.TrackingSettings.{TrackingSettings}
 use Rattle.table.specs.declared.Rule.{Rule}
 use Rattle.table.specs.Table.{mostPlaces, isAllow, isTcp}
+use Rattle.ranges.specs.declared.setting_number.SettingNumber.{SettingNumber}
+use Rattle.ranges.specs.Numbers as setting
 
 -- "A table is bad if a value is outside its range"
 abbrev pub any : {A : Type 0} → A → Bool
@@ -59,57 +62,69 @@ mayTrack r = isAllow (r .action) && isTcp (ofKind (r .transport .kind))
 abbrev pub halfGood : ℕ → Setting ℕ → Setting ℕ → Bool → Bool
 halfGood high half other may = within (fromTo 1 high) half && paired half other && (isUnset half || may)
 
--- The tests of one rule, a line for each setting in the paper's order: all that can be wrong with it.
--- A half pair stands at its set half, and misplaced tracking at its first set half.
--- First the id, and right after it the action. `fresh`: no earlier rule has the id.
-abbrev pub headTests : Bool → Rule → List Bool
-headTests fresh r = (leb (r .id) 65534 && fresh) ∷ knownAction (r .action) ∷ []
+-- ---- the one list: a line for each setting in the paper's order, its number beside its test, and so all that can be wrong with a rule
 
-abbrev pub linkTests : LinkSettings → List Bool
+pub data Test : Type 0 where
+  test : SettingNumber → Bool → Test
+
+abbrev pub good : Test → Bool
+good (test n b) = b
+
+-- "the id comes first", and right after it the action. `fresh`: no earlier rule has the id.
+abbrev pub headTests : Bool → Rule → List Test
+headTests fresh r =
+    test setting.id (leb (r .id) 65534 && fresh)
+    ∷ test setting.action (knownAction (r .action))
+    ∷ []
+
+abbrev pub linkTests : LinkSettings → List Test
 linkTests s =
-    within (fromTo 0 0xFFFFFFFFFFFF) (of64 (s .destination))
-    ∷ within (fromTo 0 0xFFFFFFFFFFFF) (of64 (s .source))
-    ∷ within (fromTo 0 4094) (of16 (s .vlan))
-    ∷ within (fromTo 0 7) (of8 (s .priority))
-    ∷ within any (of16 (s .ether))
+    test setting.destinationMac (within (fromTo 0 0xFFFFFFFFFFFF) (of64 (s .destination)))
+    ∷ test setting.sourceMac (within (fromTo 0 0xFFFFFFFFFFFF) (of64 (s .source)))
+    ∷ test setting.vlanId (within (fromTo 0 4094) (of16 (s .vlan)))
+    ∷ test setting.priority (within (fromTo 0 7) (of8 (s .priority)))
+    ∷ test setting.etherType (within any (of16 (s .ether)))
     ∷ []
 
-abbrev pub ipv4Tests : Ipv4Settings → List Bool
+abbrev pub ipv4Tests : Ipv4Settings → List Test
 ipv4Tests s =
-    within prefixGood (ofPrefix (s .source))
-    ∷ within prefixGood (ofPrefix (s .destination))
-    ∷ within any (of8 (s .protocol))
+    test setting.ipv4Source (within prefixGood (ofPrefix (s .source)))
+    ∷ test setting.ipv4Destination (within prefixGood (ofPrefix (s .destination)))
+    ∷ test setting.ipv4Protocol (within any (of8 (s .protocol)))
     ∷ []
 
-abbrev pub transportTests : TransportSettings → List Bool
+-- "ports without a kind their first range"
+abbrev pub transportTests : TransportSettings → List Test
 transportTests s =
-    within knownKind (ofKind (s .kind))
-    ∷ portsGood (s .kind) (s .source)
-    ∷ portsGood (s .kind) (s .destination)
+    test setting.kind (within knownKind (ofKind (s .kind)))
+    ∷ test setting.sourcePorts (portsGood (s .kind) (s .source))
+    ∷ test setting.destinationPorts (portsGood (s .kind) (s .destination))
     ∷ []
 
-abbrev pub someipTests : SomeipSettings → List Bool
+abbrev pub someipTests : SomeipSettings → List Test
 someipTests s =
-    within any (of16 (s .service))
-    ∷ within any (of16 (s .method))
-    ∷ within any (of8 (s .version))
-    ∷ within any (of8 (s .kind))
-    ∷ within any (of8 (s .code))
+    test setting.service (within any (of16 (s .service)))
+    ∷ test setting.method (within any (of16 (s .method)))
+    ∷ test setting.protocolVersion (within any (of8 (s .version)))
+    ∷ test setting.messageType (within any (of8 (s .kind)))
+    ∷ test setting.returnCode (within any (of8 (s .code)))
     ∷ []
 
-abbrev pub rateTests : RateSettings → List Bool
+-- "a half pair names its set half"
+abbrev pub rateTests : RateSettings → List Test
 rateTests s =
-    paired (of16 (s .size)) (of16 (s .refill))
-    ∷ paired (of16 (s .refill)) (of16 (s .size))
+    test setting.bucketSize (paired (of16 (s .size)) (of16 (s .refill)))
+    ∷ test setting.refill (paired (of16 (s .refill)) (of16 (s .size)))
     ∷ []
 
-abbrev pub trackingTests : TrackingSettings → Bool → List Bool
+-- "misplaced tracking its first set half"
+abbrev pub trackingTests : TrackingSettings → Bool → List Test
 trackingTests s may =
-    halfGood mostPlaces (of8 (s .places)) (of32 (s .limit)) may
-    ∷ halfGood 600000 (of32 (s .limit)) (of8 (s .places)) may
+    test setting.places (halfGood mostPlaces (of8 (s .places)) (of32 (s .limit)) may)
+    ∷ test setting.idleLimit (halfGood 600000 (of32 (s .limit)) (of8 (s .places)) may)
     ∷ []
 
-unfoldable pub ruleTests : Bool → Rule → List Bool
+unfoldable pub ruleTests : Bool → Rule → List Test
 ruleTests fresh r =
     headTests fresh r
     ++ linkTests (r .link)
@@ -118,3 +133,12 @@ ruleTests fresh r =
     ++ someipTests (r .someip)
     ++ rateTests (r .rate)
     ++ trackingTests (r .tracking) (mayTrack r)
+
+-- a rule is good by itself if all its tests pass
+abbrev pub allGood : List Test → Bool
+allGood l = everyOf good l
+
+-- "the first setting at fault in 01's order": that of the first test that fails, none where all pass
+abbrev pub faultIn : List Test → SettingNumber
+faultIn [] = setting.none
+faultIn (test n b ∷ l) = cond b (faultIn l) n

@@ -1,11 +1,12 @@
-// The settings of one rule: how many of its tests pass before the first that fails.
+// The settings of one rule: the first that is at fault.
 ghost use mathlib.Core.Path.{_≡_};
-ghost use Rattle.numbers.specs.Lists.{leading};
 ghost use Rattle.table.specs.Words.{linkIn, ipv4In, transportIn, rateIn, trackingIn, ruleIn};
-ghost use Rattle.ranges.specs.Ranges.{headTests, linkTests, ipv4Tests, transportTests, rateTests, trackingTests, ruleTests, mayTrack};
+ghost use Rattle.ranges.specs.Ranges.{headTests, linkTests, ipv4Tests, transportTests, rateTests, trackingTests, ruleTests, mayTrack, faultIn};
 
+pub mod setting_number;
 pub mod within;
 
+use setting_number::SettingNumber;
 use table::settings::*;
 use table::words::*;
 use table::*;
@@ -14,127 +15,105 @@ use within::*;
 // How many places a rule may have, as its setting says it.
 const MOST_PLACES: u8 = PLACES as u8;
 
-// How many tests each layer of a rule has, and how many stand before its first.
-const HEAD_TESTS: usize = 2;
+// What stands where no setting is at fault.
+const NONE: u8 = SettingNumber::NONE.number;
 
-const LINK_TESTS: usize = 5;
-
-const LINK_FROM: usize = HEAD_TESTS;
-
-const IPV4_TESTS: usize = 3;
-
-const IPV4_FROM: usize = LINK_FROM + LINK_TESTS;
-
-const TRANSPORT_TESTS: usize = 3;
-
-const TRANSPORT_FROM: usize = IPV4_FROM + IPV4_TESTS;
-
-const SOMEIP_TESTS: usize = 5;
-
-const SOMEIP_FROM: usize = TRANSPORT_FROM + TRANSPORT_TESTS;
-
-const RATE_TESTS: usize = 2;
-
-const RATE_FROM: usize = SOMEIP_FROM + SOMEIP_TESTS;
-
-const TRACKING_TESTS: usize = 2;
-
-const TRACKING_FROM: usize = RATE_FROM + RATE_TESTS;
-
-pub const RULE_TESTS: usize = TRACKING_FROM + TRACKING_TESTS;
-
-// How many tests of a layer pass before the first that fails, in the paper's order. A setting whose every value is good is not looked at.
-fn link_passed(s: LinkSettings) -> usize
-    ensures { λ n. ⌜ n ≡ leading (linkTests s) ⌝ }
+// The first setting of a layer that is at fault, in the paper's order. One whose every value is good is not looked at.
+fn link_fault(s: LinkSettings) -> SettingNumber
+    ensures { λ n. ⌜ n ≡ faultIn (linkTests s) ⌝ }
 {
     let destination = s.destination;
     let source = s.source;
     let vlan = s.vlan;
     let priority = s.priority;
     if !within64(destination, 0, 0xFFFFFFFFFFFF) {
-        return 0;
+        return SettingNumber::DESTINATION_MAC;
     }
     if !within64(source, 0, 0xFFFFFFFFFFFF) {
-        return 1;
+        return SettingNumber::SOURCE_MAC;
     }
     if !within16(vlan, 0, 4094) {
-        return 2;
+        return SettingNumber::VLAN_ID;
     }
     if !within8(priority, 0, 7) {
-        return 3;
+        return SettingNumber::PRIORITY;
     }
-    LINK_TESTS
+    SettingNumber::NONE
 }
 
-fn ipv4_passed(s: Ipv4Settings) -> usize
-    ensures { λ n. ⌜ n ≡ leading (ipv4Tests s) ⌝ }
+fn ipv4_fault(s: Ipv4Settings) -> SettingNumber
+    ensures { λ n. ⌜ n ≡ faultIn (ipv4Tests s) ⌝ }
 {
     let source = s.source;
     let destination = s.destination;
     if !prefix_good(source) {
-        return 0;
+        return SettingNumber::IPV4_SOURCE;
     }
     if !prefix_good(destination) {
-        return 1;
+        return SettingNumber::IPV4_DESTINATION;
     }
-    IPV4_TESTS
+    SettingNumber::NONE
 }
 
-fn transport_passed(s: TransportSettings) -> usize
-    ensures { λ n. ⌜ n ≡ leading (transportTests s) ⌝ }
+fn transport_fault(s: TransportSettings) -> SettingNumber
+    ensures { λ n. ⌜ n ≡ faultIn (transportTests s) ⌝ }
 {
     let kind = s.kind;
     let source = s.source;
     let destination = s.destination;
     if !kind_good(kind) {
-        return 0;
+        return SettingNumber::KIND;
     }
     if !ports_good(kind, source) {
-        return 1;
+        return SettingNumber::SOURCE_PORTS;
     }
     if !ports_good(kind, destination) {
-        return 2;
+        return SettingNumber::DESTINATION_PORTS;
     }
-    TRANSPORT_TESTS
+    SettingNumber::NONE
 }
 
-// Both or neither: half a pair stands at its set half.
-fn rate_passed(s: RateSettings) -> usize
-    ensures { λ n. ⌜ n ≡ leading (rateTests s) ⌝ }
+// Both or neither: half a pair names its set half.
+fn rate_fault(s: RateSettings) -> SettingNumber
+    ensures { λ n. ⌜ n ≡ faultIn (rateTests s) ⌝ }
 {
     let size = s.size;
     let refill = s.refill;
     let no_size = unset16(size);
     if no_size == unset16(refill) {
-        return RATE_TESTS;
+        return SettingNumber::NONE;
     }
-    if no_size { 1 } else { 0 }
+    if no_size {
+        SettingNumber::REFILL
+    } else {
+        SettingNumber::BUCKET_SIZE
+    }
 }
 
 // Both or neither, each within its range, and only on a rule that may track.
-fn tracking_passed(s: TrackingSettings, may: bool) -> usize
-    ensures { λ n. ⌜ n ≡ leading (trackingTests s may) ⌝ }
+fn tracking_fault(s: TrackingSettings, may: bool) -> SettingNumber
+    ensures { λ n. ⌜ n ≡ faultIn (trackingTests s may) ⌝ }
 {
     let places = s.places;
     let limit = s.limit;
     match places {
         Setting8::Unset => {
             if unset32(limit) {
-                return TRACKING_TESTS;
+                return SettingNumber::NONE;
             }
-            1
+            SettingNumber::IDLE_LIMIT
         }
         Setting8::Set(_) => {
             if unset32(limit) {
-                return 0;
+                return SettingNumber::PLACES;
             }
             if !(within8(places, 1, MOST_PLACES) & may) {
-                return 0;
+                return SettingNumber::PLACES;
             }
             if !within32(limit, 1, 600000) {
-                return 1;
+                return SettingNumber::IDLE_LIMIT;
             }
-            TRACKING_TESTS
+            SettingNumber::NONE
         }
     }
 }
@@ -148,87 +127,87 @@ fn may_track(r: &RuleWords) -> bool
 }
 
 // The id, which is fresh where no earlier rule has it, and the action.
-fn head_passed(fresh: bool, r: &RuleWords) -> usize
-    ensures { λ n. ⌜ n ≡ leading (headTests fresh (ruleIn (now (r .entry)))) ⌝ }
+fn head_fault(fresh: bool, r: &RuleWords) -> SettingNumber
+    ensures { λ n. ⌜ n ≡ faultIn (headTests fresh (ruleIn (now (r .entry)))) ⌝ }
 {
     if !((id(r) <= 65534) & fresh) {
-        return 0;
+        return SettingNumber::ID;
     }
     if !action_good(rule_action(r)) {
-        return 1;
+        return SettingNumber::ACTION;
     }
-    HEAD_TESTS
+    SettingNumber::NONE
 }
 
-// The tests of each layer of a row. Where none of its settings is set they all pass, which spares reading them.
-fn link_in_row(r: &RuleWords) -> usize
-    ensures { λ n. ⌜ n ≡ leading (linkTests (linkIn (now (r .entry)))) ⌝ }
+// The same of each layer of a row. Where none of its settings is set none is at fault, which spares reading them.
+fn link_in_row(r: &RuleWords) -> SettingNumber
+    ensures { λ n. ⌜ n ≡ faultIn (linkTests (linkIn (now (r .entry)))) ⌝ }
 {
     if none_set(r, LINK) {
-        return LINK_TESTS;
+        return SettingNumber::NONE;
     }
-    link_passed(link(r))
+    link_fault(link(r))
 }
 
-fn ipv4_in_row(r: &RuleWords) -> usize
-    ensures { λ n. ⌜ n ≡ leading (ipv4Tests (ipv4In (now (r .entry)))) ⌝ }
+fn ipv4_in_row(r: &RuleWords) -> SettingNumber
+    ensures { λ n. ⌜ n ≡ faultIn (ipv4Tests (ipv4In (now (r .entry)))) ⌝ }
 {
     if none_set(r, IP) {
-        return IPV4_TESTS;
+        return SettingNumber::NONE;
     }
-    ipv4_passed(ipv4(r))
+    ipv4_fault(ipv4(r))
 }
 
-fn transport_in_row(r: &RuleWords) -> usize
-    ensures { λ n. ⌜ n ≡ leading (transportTests (transportIn (now (r .entry)))) ⌝ }
+fn transport_in_row(r: &RuleWords) -> SettingNumber
+    ensures { λ n. ⌜ n ≡ faultIn (transportTests (transportIn (now (r .entry)))) ⌝ }
 {
     if none_set(r, TRANSPORT) {
-        return TRANSPORT_TESTS;
+        return SettingNumber::NONE;
     }
-    transport_passed(transport(r))
+    transport_fault(transport(r))
 }
 
-fn rate_in_row(r: &RuleWords) -> usize
-    ensures { λ n. ⌜ n ≡ leading (rateTests (rateIn (now (r .entry)))) ⌝ }
+fn rate_in_row(r: &RuleWords) -> SettingNumber
+    ensures { λ n. ⌜ n ≡ faultIn (rateTests (rateIn (now (r .entry)))) ⌝ }
 {
     if none_set(r, RATE) {
-        return RATE_TESTS;
+        return SettingNumber::NONE;
     }
-    rate_passed(rate(r))
+    rate_fault(rate(r))
 }
 
-fn tracking_in_row(r: &RuleWords) -> usize
-    ensures { λ n. ⌜ n ≡ leading (trackingTests (trackingIn (now (r .entry))) (mayTrack (ruleIn (now (r .entry))))) ⌝ }
+fn tracking_in_row(r: &RuleWords) -> SettingNumber
+    ensures { λ n. ⌜ n ≡ faultIn (trackingTests (trackingIn (now (r .entry))) (mayTrack (ruleIn (now (r .entry))))) ⌝ }
 {
     if none_set(r, TRACKING) {
-        return TRACKING_TESTS;
+        return SettingNumber::NONE;
     }
-    tracking_passed(tracking_settings(r), may_track(r))
+    tracking_fault(tracking_settings(r), may_track(r))
 }
 
-// All that can be wrong with a rule, up to the first test that fails.
-pub fn rule_passed(fresh: bool, r: &RuleWords) -> usize
-    ensures { λ n. ⌜ n ≡ leading (ruleTests fresh (ruleIn (now (r .entry)))) ⌝ }
+// All that can be wrong with a rule, up to the first setting that is at fault.
+pub fn rule_fault(fresh: bool, r: &RuleWords) -> SettingNumber
+    ensures { λ n. ⌜ n ≡ faultIn (ruleTests fresh (ruleIn (now (r .entry)))) ⌝ }
 {
-    let head = head_passed(fresh, r);
-    if head < HEAD_TESTS {
+    let head = head_fault(fresh, r);
+    if head.number != NONE {
         return head;
     }
     let links = link_in_row(r);
-    if links < LINK_TESTS {
-        return LINK_FROM + links;
+    if links.number != NONE {
+        return links;
     }
     let ips = ipv4_in_row(r);
-    if ips < IPV4_TESTS {
-        return IPV4_FROM + ips;
+    if ips.number != NONE {
+        return ips;
     }
     let transports = transport_in_row(r);
-    if transports < TRANSPORT_TESTS {
-        return TRANSPORT_FROM + transports;
+    if transports.number != NONE {
+        return transports;
     }
     let rates = rate_in_row(r);
-    if rates < RATE_TESTS {
-        return RATE_FROM + rates;
+    if rates.number != NONE {
+        return rates;
     }
-    TRACKING_FROM + tracking_in_row(r)
+    tracking_in_row(r)
 }

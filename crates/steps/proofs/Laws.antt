@@ -8,7 +8,7 @@ use native.Mathlib.Omega.{arith}
 use borrow.Author.Tests.{lt-ltb, le-ltb, ltb-true, ltb-false, eq-eqb, ne-eqb, eqb-false}
 use lib.ListN.{length, getD}
 use lib.Dec.{ltb, eqb}
-use Rattle.numbers.specs.Lists.{every, first}
+use Rattle.numbers.specs.Lists.{first}
 use Rattle.numbers.proofs.Lists.{cond-both, first-before}
 use Rattle.packets.specs.declared.Ip.{Ip}
 use Rattle.packets.specs.declared.Ip.the-variants as ip
@@ -27,20 +27,20 @@ use Rattle.table.specs.declared.Rule.{Rule}
 use Rattle.table.specs.declared.Tracking.{Tracking}
 use Rattle.table.specs.declared.Tracking.the-variants as tracking
 use Rattle.table.specs.Table.{ruleAt, trackingOf}
-use Rattle.ranges.specs.Ranges.{ruleTests}
+use Rattle.ranges.specs.Ranges.{ruleTests, allGood}
 use Rattle.faults.specs.Faults.{freshId, faultOf}
 use Rattle.faults.proofs.Good.{good-rule, good-states, good-tracking}
 use Rattle.deciding.specs.Decider.{deciderOf}
 use Rattle.deciding.specs.Best.{scoreOf, greatest, bestOf}
 use Rattle.deciding.specs.declared.Best.{Best}
 use Rattle.deciding.proofs.Deciders.{decider-is}
-use Rattle.flags.specs.declared.FlagKind.{FlagKind}
+use Rattle.flags.specs.declared.Flags.{Flags}
 use Rattle.conversations.specs.declared.Turn.{Turn}
 use Rattle.places.specs.declared.Quad.{Quad}
 use Rattle.places.specs.Places.{ipv4Quad}
 use Rattle.records.specs.Records.{Lent, Records, recordsOf, wordsOf, Shaped, ShapedRecords}
 use Rattle.flags.specs.Flags.{kindOf}
-use Rattle.verdicts.specs.Rule.{overRate, wrongStep, noPlaceFree, blockedByDefault}
+use Rattle.verdicts.specs.Rule.{overRate, noPlaceFree, blockedByDefault}
 use Rattle.records.specs.Step.{ticked, reaction, acted}
 use Rattle.places.specs.Good.{placesIn, isIpv4}
 use Rattle.places.proofs.PlaceLaws.{quad-ipv4}
@@ -53,7 +53,7 @@ use Rattle.events.specs.declared.Event.the-variants as event
 use Rattle.steps.specs.declared.Answer.{Answer}
 use Rattle.steps.specs.declared.Report.{Report}
 use Rattle.steps.specs.declared.Report.the-variants as report
-use Rattle.steps.specs.Steps.{turnIn, turnOf, idAt, eventFor, bestEvent, eventOf, outcomeOf, stepped, steppedAs}
+use Rattle.steps.specs.Steps.{turnIn, turnOf, idAt, wrongStep, eventFor, bestEvent, eventOf, outcomeOf, stepped, steppedAs}
 
 -- ---- who decides
 
@@ -62,7 +62,7 @@ pub decider-rule : (t : Table) (state : ℕ) (x : Seen) → Decider t (deciderOf
 decider-rule t state x h = decider-is t state x (deciderOf t state x) refl h .0
 
 -- a good rule has at most eight places
-tracks : (r : Rule) (fresh : Bool) → every (ruleTests fresh r) ≡ true → (k : Tracking) → trackingOf r ≡ k → placesIn k ≤ 8
+tracks : (r : Rule) (fresh : Bool) → allGood (ruleTests fresh r) ≡ true → (k : Tracking) → trackingOf r ≡ k → placesIn k ≤ 8
 tracks r fresh h tracking.Unset e = omega arith
 tracks r fresh h (tracking.Set m) e = good-tracking fresh r h m e .1
 
@@ -76,9 +76,9 @@ few-places t state x d e q h =
 -- ---- what tracking looks at
 
 pub turn-tcp :
-    (x : Ip) (y : Transport) (p : Packet) (g : Segment) (k : FlagKind) (a b : ℕ) → x ≡ ip.V4 p → y ≡ transport.Tcp g
+    (x : Ip) (y : Transport) (p : Packet) (g : Segment) (k : Flags) (a b : ℕ) → x ≡ ip.V4 p → y ≡ transport.Tcp g
     → a ≡ g .source → b ≡ g .destination → k ≡ kindOf (g .fin) (g .syn) (g .rst) (g .ack)
-    → (q : Quad) → q ≡ ipv4Quad (p .source) (p .destination) (a * 65536 + b) → _≡_ {A = Turn} (record { quad = q; kind = k }) (turnIn x y)
+    → (q : Quad) → q ≡ ipv4Quad (p .source) (p .destination) (a * 65536 + b) → _≡_ {A = Turn} (record { quad = q; flags = k }) (turnIn x y)
 turn-tcp x y p g k a b e f h m n q w = rw (w, e, f, h, m, n)
 
 -- whatever is tracked, its addresses have 32 bits
@@ -170,10 +170,6 @@ module _ (v : ℕ) where
   unfolding eventFor
   for-rate h = rw h
 
-  pub for-step : v ≡ wrongStep → report.Own event.StateTransition ≡ eventFor v
-  unfolding eventFor
-  for-step h = rw h
-
   pub for-full : v ≡ noPlaceFree → report.Own event.MaxConnections ≡ eventFor v
   unfolding eventFor
   for-full h = rw h
@@ -182,10 +178,14 @@ module _ (v : ℕ) where
   unfolding eventFor
   for-best h = rw h
 
-  pub for-none :
-      (v ≡ overRate → ⊥) → (v ≡ wrongStep → ⊥) → (v ≡ noPlaceFree → ⊥) → (v ≡ blockedByDefault → ⊥) → report.Nothing ≡ eventFor v
-  unfolding eventFor
-  for-none a b c e = simp (ne-eqb v overRate a, ne-eqb v wrongStep b, ne-eqb v noPlaceFree c, ne-eqb v blockedByDefault e)
+  module _ {b : Bool} (wrong : b ≡ wrongStep v) (rate : v ≡ overRate → ⊥) where
+    pub for-step : b ≡ true → report.Own event.StateTransition ≡ eventFor v
+    unfolding eventFor
+    for-step h = simp (ne-eqb v overRate rate, sym wrong ∙ h)
+
+    pub for-none : b ≡ false → (v ≡ noPlaceFree → ⊥) → (v ≡ blockedByDefault → ⊥) → report.Nothing ≡ eventFor v
+    unfolding eventFor
+    for-none h c e = simp (ne-eqb v overRate rate, sym wrong ∙ h, ne-eqb v noPlaceFree c, ne-eqb v blockedByDefault e)
 
 -- ---- frames that are shown
 

@@ -3,7 +3,7 @@
 use Prim.Native.Nat.{ℕ, _+_, _*_, _≤_}
 use mathlib.Core.Path.{_≡_}
 use mathlib.Core.List.{List, []}
-use mathlib.Core.Bool.{true, cond}
+use mathlib.Core.Bool.{Bool, true, cond, _||_}
 use lib.ListN.{length}
 use lib.Dec.{ltb, eqb}
 use Rattle.packets.specs.declared.Ip.{Ip}
@@ -21,11 +21,11 @@ use Rattle.faults.specs.Faults.{faultOf}
 use Rattle.deciding.specs.Decider.{deciderOf}
 use Rattle.deciding.specs.Best.{bestOf}
 use Rattle.conversations.specs.declared.Turn.{Turn}
-use Rattle.flags.specs.declared.FlagKind.the-variants as kind
+use Rattle.flags.specs.declared.Flags.the-variants as flags
 use Rattle.records.specs.Records.{Lent, Records, default, recordsOf, wordsOf}
 use Rattle.places.specs.Places.{ipv4Quad}
 use Rattle.flags.specs.Flags.{kindOf}
-use Rattle.verdicts.specs.Rule.{overRate, wrongStep, noPlaceFree, blockedByDefault}
+use Rattle.verdicts.specs.Rule.{overRate, noPlaceFree, blockedByDefault, wrongFlags, noConversation, notInState}
 use Rattle.records.specs.Step.{ticked, reaction, acted}
 use Rattle.records.specs.Good.{recordsGood}
 use Rattle.events.specs.Events.{eventBytes, mismatchOf, written, eventRoom}
@@ -49,13 +49,13 @@ seenOf a l = seen (a .bytes) l
 
 -- what tracking looks at: addresses, ports and flags of a TCP segment; nothing that it knows where there is none
 abbrev pub noTurn : Turn
-noTurn = record { quad = record { source = 0; destination = 0; ports = 0 }; kind = kind.Wrong }
+noTurn = record { quad = record { source = 0; destination = 0; ports = 0 }; flags = flags.Wrong }
 
 -- by the layers that tell it
 abbrev pub turnIn : Ip → Transport → Turn
 turnIn (ip.V4 p) (transport.Tcp t) = record {
   quad = ipv4Quad (p .source) (p .destination) (t .source * 65536 + t .destination);
-  kind = kindOf (t .fin) (t .syn) (t .rst) (t .ack);
+  flags = kindOf (t .fin) (t .syn) (t .rst) (t .ack);
 }
 turnIn (ip.V4 p) transport.Absent = noTurn
 turnIn (ip.V4 p) (transport.Udp u) = noTurn
@@ -71,12 +71,16 @@ idAt t d = cond (ltb d default) (ruleAt t d .id) 65535
 
 -- ---- the event
 
+-- the verdicts that verdict 4 became: for each of them "Event 63 stays"
+abbrev pub wrongStep : ℕ → Bool
+wrongStep verdict = eqb verdict wrongFlags || (eqb verdict noConversation || eqb verdict notInState)
+
 -- "3 gives event 64 and 4 gives 63. 5 gives 001's event for too many TCP connections. 6 gives the mismatch event of the best fit";
 -- "Verdicts 0, 1 and 2 have no event"
 unfoldable pub eventFor : ℕ → Report
 eventFor verdict =
     cond (eqb verdict overRate) (report.Own event.Ratelimit)
-    (cond (eqb verdict wrongStep) (report.Own event.StateTransition)
+    (cond (wrongStep verdict) (report.Own event.StateTransition)
     (cond (eqb verdict noPlaceFree) (report.Own event.MaxConnections)
     (cond (eqb verdict blockedByDefault) report.BestFit
     report.Nothing)))

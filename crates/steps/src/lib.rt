@@ -10,14 +10,14 @@ ghost use Rattle.table.specs.Words.{tableIn};
 ghost use Rattle.deciding.specs.Best.{bestOf};
 ghost use Rattle.records.specs.Records.{recordsOf, lent, before, after};
 ghost use Rattle.events.specs.Events.{eventRoom, Wrote};
-ghost use Rattle.steps.specs.Steps.{noTurn, turnIn, idAt, eventFor, bestEvent, eventOf, outcomeOf, Ready, stepped, steppedAs};
+ghost use Rattle.steps.specs.Steps.{noTurn, turnIn, idAt, wrongStep, eventFor, bestEvent, eventOf, outcomeOf, Ready, stepped, steppedAs};
 use conversations::Turn;
 use deciding::Best;
 use deciding::decide;
 use events::Event;
 use events::mismatch;
 use events::write;
-use flags::FlagKind;
+use flags::Flags;
 use flags::flag_kind;
 use layers::Layers;
 use numbers::wide32;
@@ -66,7 +66,7 @@ fn no_turn() -> Turn
             destination: 0,
             ports: 0,
         },
-        kind: FlagKind::Wrong,
+        flags: Flags::Wrong,
     }
 }
 
@@ -86,7 +86,7 @@ pub(crate) fn turn(ip: Ip, t: Transport) -> Turn
                 p.destination,
                 wide32(s.source) * 65536 + wide32(s.destination),
             ),
-            kind: flag_kind(s.fin, s.syn, s.rst, s.ack),
+            flags: flag_kind(s.fin, s.syn, s.rst, s.ack),
         },
     }
 }
@@ -102,6 +102,14 @@ fn id_at(t: &TableWords, d: usize) -> u16
     }
 }
 
+// The verdicts of tracking that say which step was wrong.
+fn wrong_step(v: Verdict) -> bool
+    ensures { λ r. ⌜ r ≡ wrongStep (v .number) ⌝ }
+{
+    let n = v.number;
+    (n == Verdict::WRONG_FLAGS) | ((n == Verdict::NO_CONVERSATION) | (n == Verdict::NOT_IN_STATE))
+}
+
 // Verdicts 0, 1 and 2 have no event.
 fn event_for(v: Verdict) -> Report
     ensures { λ r. ⌜ r ≡ eventFor (v .number) ⌝ }
@@ -109,7 +117,7 @@ fn event_for(v: Verdict) -> Report
     if v.number == Verdict::OVER_RATE {
         return Report::Own(Event::Ratelimit);
     }
-    if v.number == Verdict::WRONG_STEP {
+    if wrong_step(v) {
         return Report::Own(Event::StateTransition);
     }
     if v.number == Verdict::NO_PLACE_FREE {

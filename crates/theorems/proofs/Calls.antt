@@ -16,6 +16,7 @@ use Rattle.layers.specs.declared.Layers.{Layers}
 use Rattle.layers.specs.declared.Shown.{Shown}
 use Rattle.layers.specs.declared.Shown.the-variants as shown
 use Rattle.table.specs.declared.Table.{Table}
+use Rattle.faults.specs.declared.AtFault.{AtFault}
 use Rattle.faults.specs.declared.Fault.{Fault}
 use Rattle.faults.specs.declared.Fault.the-variants as fault
 use Rattle.faults.specs.Faults.{faultOf}
@@ -40,6 +41,7 @@ use Rattle.firewall.specs.Firewall.{
   leaves,
   ifTable,
   noSpace,
+  atFault,
   badTable,
   badRecord,
   noSuchState,
@@ -147,7 +149,7 @@ good-or-refused t w s = table (faultOf t) refl
     records false h e = inr (record { why = plain 5; all = λ a space. rw (e, h) })
 
     table : (f : Fault) → faultOf t ≡ f → ((faultOf t ≡ fault.Good) × Good t w) ⊎ Refuses t w
-    table (fault.At place) e = inr (record { why = record { number = 4; place = place }; all = λ a space. rw e })
+    table (fault.At x) e = inr (record { why = atFault x; all = λ a space. rw e })
     table fault.Good e = records (recordsGood t (recordsOf w)) refl e
 
 -- what holds of every refusal, and of every judged frame at two readings, from words that are good or bad alike,
@@ -183,10 +185,10 @@ judge-two t v w bytes space n m P same bad well = table (faultOf t) refl
     records false h e = bad (plain 5)
 
     call : Lent → ℕ → Fault → After
-    call u k f = ifTable f (λ place. says (badTable place) u space) (on u k (recordsGood t (recordsOf u)))
+    call u k f = ifTable f (λ x. says (badTable x) u space) (on u k (recordsGood t (recordsOf u)))
 
     table : (f : Fault) → faultOf t ≡ f → P (call v n f) (call w m f)
-    table (fault.At place) e = bad (record { number = 4; place = place })
+    table (fault.At x) e = bad (atFault x)
     table fault.Good e =
         subst (λ b. P (on v n (recordsGood t (recordsOf v))) (on w m b)) same (records (recordsGood t (recordsOf v)) refl e)
 
@@ -202,14 +204,14 @@ judge-by t w a space P bad well =
 -- ---- the calls fresh and switch
 
 pub start-by :
-    (t : Table) (n : ℕ) (w : Lent) (P : AfterCall → Type 0) → ((place : ℕ) → P (leaves (badTable place) w))
+    (t : Table) (n : ℕ) (w : Lent) (P : AfterCall → Type 0) → ((x : AtFault) → P (leaves (badTable x) w))
     → (faultOf t ≡ fault.Good → P (leaves done (wordsOf (freshOf n)))) → P (startOf t n w)
 unfolding startOf
 start-by t n w P bad well = table (faultOf t) refl
   where
     table : (f : Fault) → faultOf t ≡ f
-        → P (ifTable f (λ place. leaves (badTable place) w) (leaves done (wordsOf (freshOf n))))
-    table (fault.At place) e = bad place
+        → P (ifTable f (λ x. leaves (badTable x) w) (leaves done (wordsOf (freshOf n))))
+    table (fault.At x) e = bad x
     table fault.Good e = well e
 
 -- a switch, from words that are good or bad alike
@@ -230,7 +232,7 @@ switch-two t n v w P same bad well = table (faultOf t) refl
     records u b = cond b (state u (ltb n (t .statecount))) (leaves badRecord u)
 
     call : Lent → Fault → AfterCall
-    call u f = ifTable f (λ place. leaves (badTable place) u) (records u (recordsGood t (recordsOf u)))
+    call u f = ifTable f (λ x. leaves (badTable x) u) (records u (recordsGood t (recordsOf u)))
 
     by-state :
         (b : Bool) → ltb n (t .statecount) ≡ b → faultOf t ≡ fault.Good → recordsGood t (recordsOf v) ≡ true → P (state v b) (state w b)
@@ -242,7 +244,7 @@ switch-two t n v w P same bad well = table (faultOf t) refl
     by-records false h e = bad (plain 5)
 
     table : (f : Fault) → faultOf t ≡ f → P (call v f) (call w f)
-    table (fault.At place) e = bad (record { number = 4; place = place })
+    table (fault.At x) e = bad (atFault x)
     table fault.Good e =
         subst (λ b. P (records v (recordsGood t (recordsOf v))) (records w b)) same (by-records (recordsGood t (recordsOf v)) refl e)
 

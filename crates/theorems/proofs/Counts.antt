@@ -202,7 +202,7 @@ start-step t reading w d = (good-kept .fresh t reading w d, none d)
     none : startOf t reading w .said ≡ done → total (recordsOf (startOf t reading w .words)) ≡ 0
     none =
         start-by t reading w (λ (x : AfterCall). x .said ≡ done → total (recordsOf (x .words)) ≡ 0)
-        (λ place e. absurd (let z : _≡_ {A = ℕ} 0 1 = cc in omega arith))
+        (λ x e. absurd (let z : _≡_ {A = ℕ} 0 1 = cc in omega arith))
         (λ e d. fresh-total reading)
 
 pub counts-add : CountsAdd

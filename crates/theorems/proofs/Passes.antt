@@ -26,13 +26,15 @@ use Rattle.deciding.proofs.Deciders.{decider-is, decider-default, decider-small
 use Rattle.places.specs.declared.Quad.{Quad}
 use Rattle.flags.specs.declared.FlagKind.{FlagKind}
 use Rattle.flags.specs.declared.FlagKind.the-variants as kind
+use Rattle.flags.specs.declared.Flags.{Flags}
+use Rattle.flags.specs.declared.Flags.the-variants as flags
 use Rattle.flags.specs.declared.Next.{Next}
 use Rattle.flags.specs.declared.Next.the-variants as next
 use Rattle.conversations.specs.declared.Turn.{Turn}
 use Rattle.places.specs.Places.{Place, free, phaseOf}
 use Rattle.verdicts.specs.Record.{RuleRecord}
 use Rattle.records.specs.Records.{Records, recordsOf, recordAt, default}
-use Rattle.conversations.specs.Tracking.{freeAt, heldAt, Tracked, moved, begun, trackedIn, tracked}
+use Rattle.conversations.specs.Tracking.{freeAt, heldAt, Tracked, moved, begun, stepOf, trackedIn, tracked}
 use Rattle.flags.specs.Flags.{nextOf}
 use Rattle.verdicts.specs.Rule.{
   allowed,
@@ -60,6 +62,8 @@ use Rattle.theorems.specs.Passes.{
   rateHolds,
   goesOn,
   opens,
+  stepHolds,
+  flagsHold,
   trackingHolds,
   ByRule,
   ByDefault,
@@ -146,26 +150,30 @@ moved-tells q ps i next.Removed = refl
 moved-tells q ps i next.No = omega arith
 
 begun-tells :
-    (m : Room) (g : Turn) (ps : List Place) (k : FlagKind)
-    → Tells (opens k && ltb (freeAt ps (m .places)) (m .places)) (says (begun m g ps k))
-begun-tells m g ps kind.Open = free-tells (ltb (freeAt ps (m .places)) (m .places)) _ _ refl (omega arith)
+    (m : Room) (q : Quad) (ps : List Place) (k : FlagKind)
+    → Tells (opens k && ltb (freeAt ps (m .places)) (m .places)) (says (begun m q ps k))
+begun-tells m q ps kind.Open = free-tells (ltb (freeAt ps (m .places)) (m .places)) _ _ refl (omega arith)
   where
     free-tells : (b : Bool) (x y : Tracked) → says x ≡ allowed → 2 ≤ says y → Tells b (says (cond b x y))
     free-tells true x y h k = h
     free-tells false x y h k = k
-begun-tells m g ps kind.Carry = omega arith
-begun-tells m g ps kind.End = omega arith
-begun-tells m g ps kind.Reset = omega arith
-begun-tells m g ps kind.Wrong = omega arith
+begun-tells m q ps kind.Carry = omega arith
+begun-tells m q ps kind.End = omega arith
+begun-tells m q ps kind.Reset = omega arith
+
+step-tells : (m : Room) (q : Quad) (ps : List Place) (k : FlagKind) → Tells (stepHolds m q ps k) (says (stepOf m q ps k))
+unfolding stepOf
+step-tells m q ps k =
+    let i : ℕ = heldAt q ps in
+    tells-either (ltb i (length ps)) _ _ _ _ (moved-tells q ps i (nextOf (phaseOf (getD ps i free .state)) k)) (begun-tells m q ps k)
+
+flags-tell : (m : Room) (q : Quad) (ps : List Place) (f : Flags) → Tells (flagsHold m q ps f) (says (trackedIn m q ps f))
+flags-tell m q ps flags.Wrong = omega arith
+flags-tell m q ps (flags.Kind k) = step-tells m q ps k
 
 tracked-tells : (k : Tracking) (g : Turn) (ps : List Place) → Tells (trackingHolds k g ps) (says (tracked k g ps))
-unfolding trackedIn
 tracked-tells tracking.Unset g ps = refl
-tracked-tells (tracking.Set m) g ps =
-    let i : ℕ = heldAt (g .quad) ps in
-    tells-either (ltb i (length ps)) _ _ _ _
-    (moved-tells (g .quad) ps i (nextOf (phaseOf (getD ps i free .state)) (g .kind)))
-    (begun-tells m g ps (g .kind))
+tracked-tells (tracking.Set m) g ps = flags-tell m (g .quad) ps (g .flags)
 
 -- what a rule asks, in one test
 abbrev ruleHolds : Rule → Turn → RuleRecord → Bool

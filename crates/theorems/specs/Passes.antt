@@ -12,6 +12,7 @@ use Rattle.layers.specs.Layers.{shownOf}
 use Rattle.layers.specs.Seen.{Seen}
 use Rattle.layers.specs.declared.Layers.{Layers}
 use Rattle.layers.specs.declared.Shown.the-variants as shown
+use Rattle.table.specs.declared.Room.{Room}
 use Rattle.table.specs.declared.Rule.{Rule}
 use Rattle.table.specs.declared.Table.{Table}
 use Rattle.table.specs.declared.Tracking.{Tracking}
@@ -20,9 +21,12 @@ use Rattle.table.specs.Table.{ruleAt, stateAt, active, isAllow, bucketOf, track
 use Rattle.matching.specs.Matching.{ruleMatches}
 use Rattle.flags.specs.declared.FlagKind.{FlagKind}
 use Rattle.flags.specs.declared.FlagKind.the-variants as kind
+use Rattle.flags.specs.declared.Flags.{Flags}
+use Rattle.flags.specs.declared.Flags.the-variants as flags
 use Rattle.flags.specs.declared.Next.{Next}
 use Rattle.flags.specs.declared.Next.the-variants as next
 use Rattle.conversations.specs.declared.Turn.{Turn}
+use Rattle.places.specs.declared.Quad.{Quad}
 use Rattle.places.specs.Places.{Place, free, phaseOf}
 use Rattle.verdicts.specs.Record.{RuleRecord}
 use Rattle.records.specs.Records.{Records, Lent, recordsOf, recordAt}
@@ -56,28 +60,36 @@ NoMatch t state x = (j : ℕ) → Matches t state x j → ⊥
 abbrev pub rateHolds : Rule → RuleRecord → Bool
 rateHolds r x = not (over (bucketOf r) (raised (bucketOf r) (x .level)))
 
--- the table of the paper has a next state for a held conversation, or removes it; its other fields are 4
+-- the table of the paper has a next state for a held conversation, or removes it; its other fields are 42
 abbrev pub goesOn : Next → Bool
 goesOn (next.To f) = true
 goesOn next.Removed = true
 goesOn next.No = false
 
--- its row "none": "Opening, or verdict 5 if no place is free | 4 | 4 | 4"
+-- its row "none": "Opening, or verdict 5 if no place is free", and 41 for the other kinds
 abbrev pub opens : FlagKind → Bool
 opens kind.Open = true
 opens kind.Carry = false
 opens kind.End = false
 opens kind.Reset = false
-opens kind.Wrong = false
 
--- there is no tracking; the frame's conversation is held and goes on; or it is not held, the frame opens it and a place is free
+-- the frame's conversation is held and goes on; or it is not held, the frame opens it and a place is free
+abbrev pub stepHolds : Room → Quad → List Place → FlagKind → Bool
+stepHolds m q ps k =
+    let i = heldAt q ps in
+    cond (ltb i (length ps))
+    (goesOn (nextOf (phaseOf (getD ps i free .state)) k))
+    (opens k && ltb (freeAt ps (m .places)) (m .places))
+
+-- wrong flags, which are 40, are no step
+abbrev pub flagsHold : Room → Quad → List Place → Flags → Bool
+flagsHold m q ps flags.Wrong = false
+flagsHold m q ps (flags.Kind k) = stepHolds m q ps k
+
+-- there is no tracking, or it holds
 abbrev pub trackingHolds : Tracking → Turn → List Place → Bool
 trackingHolds tracking.Unset g ps = true
-trackingHolds (tracking.Set m) g ps =
-    let i = heldAt (g .quad) ps in
-    cond (ltb i (length ps))
-    (goesOn (nextOf (phaseOf (getD ps i free .state)) (g .kind)))
-    (opens (g .kind) && ltb (freeAt ps (m .places)) (m .places))
+trackingHolds (tracking.Set m) g ps = flagsHold m (g .quad) ps (g .flags)
 
 -- ---- "A frame passes exactly when .."
 

@@ -31,19 +31,28 @@ blockedByRule = 2
 abbrev pub overRate : ℕ
 overRate = 3
 
-abbrev pub wrongStep : ℕ
-wrongStep = 4
-
 abbrev pub noPlaceFree : ℕ
 noPlaceFree = 5
 
 abbrev pub blockedByDefault : ℕ
 blockedByDefault = 6
 
+-- "Verdict 4 becomes 40, 41 and 42": "a wrong flag set, no such conversation, and a kind not allowed in the state held"
+abbrev pub wrongFlags : ℕ
+wrongFlags = 40
+
+abbrev pub noConversation : ℕ
+noConversation = 41
+
+abbrev pub notInState : ℕ
+notInState = 42
+
 -- what tracking says, as a verdict
 abbrev pub verdictOf : Progress → ℕ
 verdictOf progress.Holds = allowed
-verdictOf progress.WrongStep = wrongStep
+verdictOf progress.WrongFlags = wrongFlags
+verdictOf progress.NoConversation = noConversation
+verdictOf progress.NotInState = notInState
 verdictOf progress.NoPlaceFree = noPlaceFree
 
 -- ---- a record with one part anew

@@ -5,9 +5,11 @@ ghost use Rattle.verdicts.specs.Rule.{
   allowedByDefault,
   blockedByRule,
   overRate,
-  wrongStep,
   noPlaceFree,
   blockedByDefault,
+  wrongFlags,
+  noConversation,
+  notInState,
   passes,
   verdictOf,
 };
@@ -26,11 +28,15 @@ impl Verdict {
 
     pub const OVER_RATE: u8 = 3;
 
-    pub const WRONG_STEP: u8 = 4;
-
     pub const NO_PLACE_FREE: u8 = 5;
 
     pub const BLOCKED_BY_DEFAULT: u8 = 6;
+
+    pub const WRONG_FLAGS: u8 = 40;
+
+    pub const NO_CONVERSATION: u8 = 41;
+
+    pub const NOT_IN_STATE: u8 = 42;
 
     pub(crate) fn allowed() -> Verdict
         ensures { λ r. ⌜ r .number ≡ allowed ⌝ }
@@ -64,14 +70,6 @@ impl Verdict {
         }
     }
 
-    pub(crate) fn wrong_step() -> Verdict
-        ensures { λ r. ⌜ r .number ≡ wrongStep ⌝ }
-    {
-        Verdict {
-            number: Verdict::WRONG_STEP,
-        }
-    }
-
     pub(crate) fn no_place_free() -> Verdict
         ensures { λ r. ⌜ r .number ≡ noPlaceFree ⌝ }
     {
@@ -88,13 +86,39 @@ impl Verdict {
         }
     }
 
+    pub(crate) fn wrong_flags() -> Verdict
+        ensures { λ r. ⌜ r .number ≡ wrongFlags ⌝ }
+    {
+        Verdict {
+            number: Verdict::WRONG_FLAGS,
+        }
+    }
+
+    pub(crate) fn no_conversation() -> Verdict
+        ensures { λ r. ⌜ r .number ≡ noConversation ⌝ }
+    {
+        Verdict {
+            number: Verdict::NO_CONVERSATION,
+        }
+    }
+
+    pub(crate) fn not_in_state() -> Verdict
+        ensures { λ r. ⌜ r .number ≡ notInState ⌝ }
+    {
+        Verdict {
+            number: Verdict::NOT_IN_STATE,
+        }
+    }
+
     // What tracking says.
     pub(crate) fn of(p: Progress) -> Verdict
         ensures { λ r. ⌜ r .number ≡ verdictOf p ⌝ }
     {
         match p {
             Progress::Holds => Verdict::allowed(),
-            Progress::WrongStep => Verdict::wrong_step(),
+            Progress::WrongFlags => Verdict::wrong_flags(),
+            Progress::NoConversation => Verdict::no_conversation(),
+            Progress::NotInState => Verdict::not_in_state(),
             Progress::NoPlaceFree => Verdict::no_place_free(),
         }
     }

@@ -1,9 +1,11 @@
-// Judges M1 to M11 of the paper's worked set through the entry points and prints them: the table, then a line for each frame.
+// Judges M1 to M11 of the paper's worked set through the entry points and prints them: the table, then a line for each frame; then what a wrong step and a wrong table are answered.
 mod expected;
 mod page;
 mod print;
 mod rules;
 mod same;
+mod words;
+mod wrong;
 
 use events::ROOM;
 use firewall::Started;
@@ -28,9 +30,10 @@ use table::words::TableWords;
 use verdicts::COUNT_WORDS;
 
 fn fresh(t: &TableWords, head: &mut Head, counts: &mut Counts, places: &mut Places) {
-    let Started::Fresh = firewall::fresh(t, 0, head, counts, places) else {
-        return text(b"the table is refused\n");
+    let Started::Refused(r) = firewall::fresh(t, 0, head, counts, places) else {
+        return;
     };
+    words::refused(r, t);
 }
 
 // One frame judged and printed; was it answered as the paper says?
@@ -137,4 +140,7 @@ fn main() {
     );
     orders(same::records(&head, &counts, &places, &head2, &counts2, &places2));
     closing(wrong);
+    fresh(&t, &mut head, &mut counts, &mut places);
+    wrong::steps(&t, &mut head, &mut counts, &mut places);
+    wrong::tables(&mut head, &mut counts, &mut places);
 }

@@ -37,7 +37,7 @@ use verdicts::verdict::Verdict;
 
 pub(crate) fn title() {
     text(
-        b"\n     frame                         reading  verdict                   rule  event                                   records\n",
+        b"\n     frame                         reading  verdict                     rule  event                                   records\n",
     );
 }
 
@@ -80,24 +80,25 @@ fn frame(f: Frame) {
 // What was answered, and how many spaces are to stand before the records.
 pub(crate) fn answered(answer: Judged, space: &[u8; ROOM]) -> usize {
     match answer {
-        Judged::Refused(r) => refused(r.number),
+        Judged::Refused(r) => refused(r),
         Judged::Answered(a) => judged(a, space),
     }
 }
 
-fn refused(n: u8) -> usize {
+fn refused(r: Refusal) -> usize {
+    let n = r.number;
     text(b"refused ");
     number(wide8(n));
     match n {
         Refusal::TOO_SHORT => {
             text(b" too short");
-            53
+            55
         }
         Refusal::TOO_LONG => {
             text(b" too long");
-            54
+            56
         }
-        _ => 63,
+        _ => 65,
     }
 }
 
@@ -113,17 +114,20 @@ fn judged(a: Answer, space: &[u8; ROOM]) -> usize {
     event(read16(space, 0), wide16(read16(space, 2)))
 }
 
+// The number and its words, in 24 columns.
 fn verdict(n: u8) {
     number(wide8(n));
     match n {
-        Verdict::ALLOWED => left(b" allowed", 21),
-        Verdict::ALLOWED_BY_DEFAULT => left(b" allowed by default", 21),
-        Verdict::BLOCKED_BY_RULE => left(b" blocked by rule", 21),
-        Verdict::OVER_RATE => left(b" over rate", 21),
-        Verdict::WRONG_STEP => left(b" wrong step", 21),
-        Verdict::NO_PLACE_FREE => left(b" no place free", 21),
-        Verdict::BLOCKED_BY_DEFAULT => left(b" blocked by default", 21),
-        _ => spaces(21),
+        Verdict::ALLOWED => left(b" allowed", 23),
+        Verdict::ALLOWED_BY_DEFAULT => left(b" allowed by default", 23),
+        Verdict::BLOCKED_BY_RULE => left(b" blocked by rule", 23),
+        Verdict::OVER_RATE => left(b" over rate", 23),
+        Verdict::WRONG_FLAGS => left(b" wrong flags", 22),
+        Verdict::NO_CONVERSATION => left(b" no such conversation", 22),
+        Verdict::NOT_IN_STATE => left(b" not in this state", 22),
+        Verdict::NO_PLACE_FREE => left(b" no place free", 23),
+        Verdict::BLOCKED_BY_DEFAULT => left(b" blocked by default", 23),
+        _ => spaces(23),
     }
 }
 

@@ -16,10 +16,10 @@ pub(crate) fn hex(n: u64, width: usize) {
     io::print_hex(libc::STDOUT_FILENO, n, width);
 }
 
-// At most 64.
+// At most 80.
 pub(crate) fn spaces(n: usize) {
-    let blank = [b' '; 64];
-    if n <= 64 {
+    let blank = [b' '; 80];
+    if n <= 80 {
         text(&blank[0..n]);
     }
 }

@@ -38,7 +38,7 @@ impl<W: Write> Gen<W> {
     fn high_rule(&mut self, records: &mut Records, place: usize) {
         let rule = self.table.rules[place];
         if rule.has(set::RATE) {
-            records.levels[place] = HIGHEST_LEVEL - self.random.pick(&[0, 1, 999, 1_000, 1_001, 3_000]);
+            records.levels[place] = HIGHEST_LEVEL - self.random.pick(&[0, 0, 1, 999, 1_000, 1_001, 3_000]);
         }
         if !rule.has(set::TRACKING) {
             return;
@@ -58,24 +58,21 @@ impl<W: Write> Gen<W> {
     }
 
     pub(super) fn bad_table(&mut self, good: &Table) -> io::Result<()> {
-        let fault = TABLE_FAULTS[self.table_fault % TABLE_FAULTS.len()];
-        let turn = self.table_fault / TABLE_FAULTS.len();
+        let bad = self.bad_tables[self.table_fault % self.bad_tables.len()];
         self.table_fault += 1;
         let mut table = good.clone();
-        let mut place = spoil_table(&mut table, fault, &mut self.random);
-        // Two faults at once: the earlier place is named, and 64 only where the rules are good or too many.
-        if turn > 0 && table.rule_count == good.rule_count && self.random.chance(25) {
-            let other = self.random.pick(&TABLE_FAULTS[2..21]);
-            place = place.min(spoil_table(&mut table, other, &mut self.random));
-        }
+        let refused = bad.spoil(&mut table, &mut self.random);
         self.put_table(&table)?;
-        let refused = Refusal::BadTable(place);
-        assert_eq!(self.check()?, Err(refused), "table fault {fault}");
-        self.reach.hit(&format!("table-fault-{fault}"));
+        assert_eq!(self.check()?, Err(refused), "{}", bad.name());
+        self.reach.hit(&bad.name());
         if self.random.chance(25) {
             self.fresh(self.now)?;
         }
-        self.other_calls()
+        // Not each time: the judged calls are wanted for good tables.
+        if self.random.chance(30) {
+            self.other_calls()?;
+        }
+        Ok(())
     }
 
     /// Calls that must refuse in their order, whatever else is wrong with what they are given.

@@ -2,7 +2,8 @@ use mathlib.Core.Path.{_∙_}
 use Rattle.layers.specs.Seen.{seen}
 use Rattle.table.specs.Words.{ruleIn}
 use native.Mathlib.Numerals.{add-one}
-use Rattle.numbers.proofs.Leading.{count-stops, count-goes}
+use Rattle.numbers.proofs.Leading.{count-goes}
+use Rattle.numbers.proofs.Tests.{cond-stops}
 use Rattle.deciding.proofs.Leading.{leading-small}
 use native.Mathlib.Omega.{arith}
 use borrow.Author.Needs.{needs}
@@ -13,7 +14,7 @@ marked-requires : tie.Need-marked-requires
 marked-requires c κs = search needs
 
 returns : tie.Need-returns
-returns c = count-stops _ (c .before .marked .ensures) (c .if1 .taken)
+returns c = cond-stops _ (c .before .marked .ensures) (c .if1 .taken)
 
 layers-matched-requires : tie.Need-layers-matched-requires
 layers-matched-requires c κs = search needs

@@ -5,17 +5,18 @@ use mathlib.Core.List.{List, []}
 use mathlib.Core.Bool.{Bool, true, false, cond, not}
 use lib.Dec.{eqb}
 use lib.ListN.{getD}
-use Rattle.numbers.specs.Lists.{leading, firstFrom, first, allBelow}
+use Rattle.numbers.specs.Lists.{firstFrom, first, allBelow}
 use Rattle.numbers.proofs.Lists.{first-start}
 use Rattle.table.specs.Table.{mostRules}
-use Rattle.ranges.specs.Ranges.{ruleTests}
-use Rattle.faults.specs.Faults.{freshId, faulty, statesGood, Listed, faultOf}
+use Rattle.ranges.specs.declared.setting_number.SettingNumber.{SettingNumber}
+use Rattle.ranges.specs.Ranges.{ruleTests, faultIn}
+use Rattle.faults.specs.Faults.{freshId, testsAt, faulty, statesGood, Listed, tableFault, faultOf}
 use Rattle.table.specs.Words.{ruleIn, tableIn}
 use Rattle.table.specs.declared.Rule.{Rule}
 use Rattle.faults.specs.declared.Fault.the-variants as fault
 use Rattle.table.proofs.Rows.{rule-at}
 use Rattle.faults.proofs.Ids.{listed-fresh}
-use Rattle.faults.proofs.FirstFault.{passed, fault-count, fault-here, fault-next, fault-states}
+use Rattle.faults.proofs.FirstFault.{fault-count, fault-here, fault-next, fault-states}
 use borrow.Author.Needs.{needs}
 use native.Mathlib.Omega.{arith}
 use Rattle.faults.proofs.first_fault.Statement.{statement}
@@ -30,27 +31,27 @@ Inv-loop t count ids i₀ i =
 abbrev μ-loop : tie.MeasureT-loop
 μ-loop t count ids i₀ i = count - i
 
--- as many tests of a row pass, its id among the table's, as of the rule there
-row-passed :
-    (t : List (List ℕ)) (l : List ℕ) (i n : ℕ) (b : Bool) {m : ℕ} → i < n → n ≤ mostRules → Listed (tableIn t) l n
-    → b ≡ allBelow (λ j. not (eqb (getD l j 0) (getD l i 0))) i → m ≡ leading (ruleTests b (ruleIn (getD t i []))) → m ≡ passed (tableIn t) i
-row-passed t l i n b h k s f e =
+-- what is at fault in a row, its id among the table's, is so in the rule there
+row-fault :
+    (t : List (List ℕ)) (l : List ℕ) (i n : ℕ) (b : Bool) {m : SettingNumber} → i < n → n ≤ mostRules → Listed (tableIn t) l n
+    → b ≡ allBelow (λ j. not (eqb (getD l j 0) (getD l i 0))) i → m ≡ faultIn (ruleTests b (ruleIn (getD t i []))) → m ≡ faultIn (testsAt (tableIn t) i)
+row-fault t l i n b h k s f e =
     e
-    ∙ ap (λ (x : Bool). leading (ruleTests x (ruleIn (getD t i [])))) (f ∙ listed-fresh (tableIn t) l i n h s)
-    ∙ ap (λ (r : Rule). leading (ruleTests (freshId (tableIn t) i) r)) (sym (rule-at t i (omega arith)))
+    ∙ ap (λ (x : Bool). faultIn (ruleTests x (ruleIn (getD t i [])))) (f ∙ listed-fresh (tableIn t) l i n h s)
+    ∙ ap (λ (r : Rule). faultIn (ruleTests (freshId (tableIn t) i) r)) (sym (rule-at t i (omega arith)))
 
-row-told : (c : tie.After-rule-passed Inv-loop μ-loop) → c .rule-passed .result ≡ passed (tableIn (now (c .before .before .before .before .before .before .before .before .before .before .before .args .t))) (c .before .before .before .before .before .loop .i)
+row-told : (c : tie.After-rule-fault Inv-loop μ-loop) → c .rule-fault .result ≡ faultIn (testsAt (tableIn (now (c .before .before .before .before .before .before .before .before .before .before .before .args .t))) (c .before .before .before .before .before .loop .i))
 row-told c =
     let n = c .before .before in
     let l = n .before .before .before in
     let k = l .before .before .before in
-    row-passed (now (k .before .before .before .args .t)) (l .before .ids-of .result) (l .loop .i) (k .rulecount .result) (n .is-new .result)
-    (n .before .before .loop-test .taken) (omega (arith, l .before .before .if1 .left)) (l .before .ids-of .ensures) (n .is-new .ensures) (c .rule-passed .ensures)
+    row-fault (now (k .before .before .before .args .t)) (l .before .ids-of .result) (l .loop .i) (k .rulecount .result) (n .is-new .result)
+    (n .before .before .loop-test .taken) (omega (arith, l .before .before .if1 .left)) (l .before .ids-of .ensures) (n .is-new .ensures) (c .rule-fault .ensures)
 
 -- the states decide where no rule is at fault
 ended :
     (c : tie.After-states-good Inv-loop μ-loop) (b : Bool) → b ≡ c .states-good .result
-    → cond b fault.Good (fault.At mostRules) ≡ faultOf (tableIn (now (c .before .before .before .before .before .before .before .before .before .args .t)))
+    → cond b fault.Good (fault.At tableFault) ≡ faultOf (tableIn (now (c .before .before .before .before .before .before .before .before .before .args .t)))
 ended c b e =
     let l = c .before .before .before in
     let t = tableIn (now (l .before .before .before .before .before .before .args .t)) in
@@ -80,18 +81,18 @@ loop-holds c =
 is-new-requires : tie.Need-is-new-requires Inv-loop μ-loop
 is-new-requires c κs = omega arith
 
-mul-rule-passed : tie.Need-mul-rule-passed Inv-loop μ-loop
-mul-rule-passed c = omega arith
+mul-rule-fault : tie.Need-mul-rule-fault Inv-loop μ-loop
+mul-rule-fault c = omega arith
 
-index-1-rule-passed : tie.Need-index-1-rule-passed Inv-loop μ-loop
-index-1-rule-passed c = omega arith
+index-1-rule-fault : tie.Need-index-1-rule-fault Inv-loop μ-loop
+index-1-rule-fault c = omega arith
 
-rule-passed-requires : tie.Need-rule-passed-requires Inv-loop μ-loop
-rule-passed-requires c κs = search needs
+rule-fault-requires : tie.Need-rule-fault-requires Inv-loop μ-loop
+rule-fault-requires c κs = search needs
 
 returns-2 : tie.Need-returns-2 Inv-loop μ-loop
 returns-2 c =
-    let r = c .before in
+    let r = c .before .before in
     let l = r .before .before .before .before .before in
     let t = tableIn (now (l .before .before .before .before .before .before .args .t)) in
     fault-here t (omega (arith, l .loop .inv .1, l .before .before .if1 .left)) (l .loop .i)
@@ -105,7 +106,7 @@ loop-less c = omega arith
 
 loop-again : tie.Need-loop-again Inv-loop μ-loop
 loop-again c =
-    let r = c .before in
+    let r = c .before .before in
     let l = r .before .before .before .before .before in
     let t = tableIn (now (l .before .before .before .before .before .before .args .t)) in (
       omega arith,
@@ -138,9 +139,9 @@ first-fault-spec =
     ids-of-requires
     loop-holds
     is-new-requires
-    mul-rule-passed
-    index-1-rule-passed
-    rule-passed-requires
+    mul-rule-fault
+    index-1-rule-fault
+    rule-fault-requires
     returns-2
     add-i
     loop-less

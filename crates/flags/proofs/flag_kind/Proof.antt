@@ -1,4 +1,4 @@
--- `conversations::track::flag_kind` meets its contract.
+-- `flags::flag_kind` meets its contract.
 -- Assumes nothing.
 use mathlib.Core.Path.{sym, _∙_}
 use mathlib.Core.Bool.{not}

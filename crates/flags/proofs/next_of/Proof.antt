@@ -1,4 +1,4 @@
--- `conversations::track::next_of` meets its contract.
+-- `flags::next_of` meets its contract.
 -- Assumes nothing.
 use mathlib.Core.Path.{sym, ap₂}
 use Rattle.flags.specs.Flags.{nextOf}
@@ -51,15 +51,6 @@ enum-told-14 c = search needs
 enum-told-15 : tie.Need-enum-told-15
 enum-told-15 c = search needs
 
-enum-told-16 : tie.Need-enum-told-16
-enum-told-16 c = search needs
-
-enum-told-17 : tie.Need-enum-told-17
-enum-told-17 c = search needs
-
-enum-told-18 : tie.Need-enum-told-18
-enum-told-18 c = search needs
-
 returns : tie.Need-returns
 returns c = sym (ap₂ nextOf (c .before .before .enum-told .given .1) (c .enum-told2 .given .1))
 
@@ -73,37 +64,28 @@ returns-4 : tie.Need-returns-4
 returns-4 c = sym (ap₂ nextOf (c .before .before .enum-told .given .1) (c .enum-told5 .given .1))
 
 returns-5 : tie.Need-returns-5
-returns-5 c = sym (ap₂ nextOf (c .before .before .enum-told .given .1) (c .enum-told6 .given .1))
+returns-5 c = sym (ap₂ nextOf (c .before .before .enum-told6 .given .1) (c .enum-told7 .given .1))
 
 returns-6 : tie.Need-returns-6
-returns-6 c = sym (ap₂ nextOf (c .before .before .enum-told7 .given .1) (c .enum-told8 .given .1))
+returns-6 c = sym (ap₂ nextOf (c .before .before .enum-told6 .given .1) (c .enum-told8 .given .1))
 
 returns-7 : tie.Need-returns-7
-returns-7 c = sym (ap₂ nextOf (c .before .before .enum-told7 .given .1) (c .enum-told9 .given .1))
+returns-7 c = sym (ap₂ nextOf (c .before .before .enum-told6 .given .1) (c .enum-told9 .given .1))
 
 returns-8 : tie.Need-returns-8
-returns-8 c = sym (ap₂ nextOf (c .before .before .enum-told7 .given .1) (c .enum-told10 .given .1))
+returns-8 c = sym (ap₂ nextOf (c .before .before .enum-told6 .given .1) (c .enum-told10 .given .1))
 
 returns-9 : tie.Need-returns-9
-returns-9 c = sym (ap₂ nextOf (c .before .before .enum-told7 .given .1) (c .enum-told11 .given .1))
+returns-9 c = sym (ap₂ nextOf (c .before .before .enum-told11 .given .1) (c .enum-told12 .given .1))
 
 returns-10 : tie.Need-returns-10
-returns-10 c = sym (ap₂ nextOf (c .before .before .enum-told7 .given .1) (c .enum-told12 .given .1))
+returns-10 c = sym (ap₂ nextOf (c .before .before .enum-told11 .given .1) (c .enum-told13 .given .1))
 
 returns-11 : tie.Need-returns-11
-returns-11 c = sym (ap₂ nextOf (c .before .before .enum-told13 .given .1) (c .enum-told14 .given .1))
+returns-11 c = sym (ap₂ nextOf (c .before .before .enum-told11 .given .1) (c .enum-told14 .given .1))
 
 returns-12 : tie.Need-returns-12
-returns-12 c = sym (ap₂ nextOf (c .before .before .enum-told13 .given .1) (c .enum-told15 .given .1))
-
-returns-13 : tie.Need-returns-13
-returns-13 c = sym (ap₂ nextOf (c .before .before .enum-told13 .given .1) (c .enum-told16 .given .1))
-
-returns-14 : tie.Need-returns-14
-returns-14 c = sym (ap₂ nextOf (c .before .before .enum-told13 .given .1) (c .enum-told17 .given .1))
-
-returns-15 : tie.Need-returns-15
-returns-15 c = sym (ap₂ nextOf (c .before .before .enum-told13 .given .1) (c .enum-told18 .given .1))
+returns-12 c = sym (ap₂ nextOf (c .before .before .enum-told11 .given .1) (c .enum-told15 .given .1))
 
 pub next-of-spec : {M : Type 1} → statement M
 next-of-spec =
@@ -124,9 +106,6 @@ next-of-spec =
     enum-told-13
     enum-told-14
     enum-told-15
-    enum-told-16
-    enum-told-17
-    enum-told-18
     returns
     returns-2
     returns-3
@@ -138,7 +117,4 @@ next-of-spec =
     returns-9
     returns-10
     returns-11
-    returns-12
-    returns-13
-    returns-14
-    returns-15)
+    returns-12)

@@ -1,8 +1,7 @@
 -- No mark of the layer stands, or its settings are read.
 use denote.Ref.{now}
 use mathlib.Core.Path.{ap, _∙_}
-use Rattle.numbers.specs.Lists.{leading}
-use Rattle.ranges.specs.Ranges.{ipv4Tests}
+use Rattle.ranges.specs.Ranges.{ipv4Tests, faultIn}
 use Rattle.table.specs.declared.Ipv4Settings.{Ipv4Settings}
 use Rattle.ranges.proofs.Unset.{ipv4-unset}
 use borrow.Author.Needs.{needs}
@@ -18,12 +17,12 @@ returns c = ipv4-unset (now (c .before .before .args .r)) (c .if1 .taken) (c .be
 ipv4-requires : tie.Need-ipv4-requires
 ipv4-requires c κs = search needs
 
-ipv4-passed-requires : tie.Need-ipv4-passed-requires
-ipv4-passed-requires c κs = search needs
+ipv4-fault-requires : tie.Need-ipv4-fault-requires
+ipv4-fault-requires c κs = search needs
 
 returns-2 : tie.Need-returns-2
-returns-2 c = c .ipv4-passed .ensures ∙ ap (λ (s : Ipv4Settings). leading (ipv4Tests s)) (c .before .ipv4 .ensures)
+returns-2 c = c .ipv4-fault .ensures ∙ ap (λ (s : Ipv4Settings). faultIn (ipv4Tests s)) (c .before .ipv4 .ensures)
 
 pub ipv4-in-row-spec : {M : Type 1} → statement M
 ipv4-in-row-spec =
-    tie.close (tie.spec none-set-requires returns ipv4-requires ipv4-passed-requires returns-2)
+    tie.close (tie.spec none-set-requires returns ipv4-requires ipv4-fault-requires returns-2)

@@ -1,8 +1,7 @@
 -- No mark of the layer stands, or its settings are read.
 use denote.Ref.{now}
 use mathlib.Core.Path.{ap, _∙_}
-use Rattle.numbers.specs.Lists.{leading}
-use Rattle.ranges.specs.Ranges.{linkTests}
+use Rattle.ranges.specs.Ranges.{linkTests, faultIn}
 use Rattle.table.specs.declared.LinkSettings.{LinkSettings}
 use Rattle.ranges.proofs.Unset.{link-unset}
 use borrow.Author.Needs.{needs}
@@ -18,12 +17,12 @@ returns c = link-unset (now (c .before .before .args .r)) (c .if1 .taken) (c .be
 link-requires : tie.Need-link-requires
 link-requires c κs = search needs
 
-link-passed-requires : tie.Need-link-passed-requires
-link-passed-requires c κs = search needs
+link-fault-requires : tie.Need-link-fault-requires
+link-fault-requires c κs = search needs
 
 returns-2 : tie.Need-returns-2
-returns-2 c = c .link-passed .ensures ∙ ap (λ (s : LinkSettings). leading (linkTests s)) (c .before .link .ensures)
+returns-2 c = c .link-fault .ensures ∙ ap (λ (s : LinkSettings). faultIn (linkTests s)) (c .before .link .ensures)
 
 pub link-in-row-spec : {M : Type 1} → statement M
 link-in-row-spec =
-    tie.close (tie.spec none-set-requires returns link-requires link-passed-requires returns-2)
+    tie.close (tie.spec none-set-requires returns link-requires link-fault-requires returns-2)

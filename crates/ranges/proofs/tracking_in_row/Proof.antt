@@ -2,8 +2,7 @@
 use denote.Ref.{now}
 use mathlib.Core.Path.{ap, _∙_}
 use mathlib.Core.Bool.{Bool}
-use Rattle.numbers.specs.Lists.{leading}
-use Rattle.ranges.specs.Ranges.{mayTrack, trackingTests}
+use Rattle.ranges.specs.Ranges.{mayTrack, trackingTests, faultIn}
 use Rattle.table.specs.Words.{trackingIn, ruleIn}
 use Rattle.table.specs.declared.TrackingSettings.{TrackingSettings}
 use Rattle.ranges.proofs.Unset.{tracking-unset}
@@ -25,14 +24,14 @@ tracking-settings-requires c κs = search needs
 may-track-requires : tie.Need-may-track-requires
 may-track-requires c κs = search needs
 
-tracking-passed-requires : tie.Need-tracking-passed-requires
-tracking-passed-requires c κs = search needs
+tracking-fault-requires : tie.Need-tracking-fault-requires
+tracking-fault-requires c κs = search needs
 
 returns-2 : tie.Need-returns-2
 returns-2 c =
-    c .tracking-passed .ensures
-    ∙ ap (λ (s : TrackingSettings). leading (trackingTests s (c .before .may-track .result))) (c .before .before .tracking-settings .ensures)
-    ∙ ap (λ (y : Bool). leading (trackingTests (trackingIn (now (c .before .before .before .before .before .args .r))) y)) (c .before .may-track .ensures)
+    c .tracking-fault .ensures
+    ∙ ap (λ (s : TrackingSettings). faultIn (trackingTests s (c .before .may-track .result))) (c .before .before .tracking-settings .ensures)
+    ∙ ap (λ (y : Bool). faultIn (trackingTests (trackingIn (now (c .before .before .before .before .before .args .r))) y)) (c .before .may-track .ensures)
 
 pub tracking-in-row-spec : {M : Type 1} → statement M
 tracking-in-row-spec =
@@ -42,5 +41,5 @@ tracking-in-row-spec =
     returns
     tracking-settings-requires
     may-track-requires
-    tracking-passed-requires
+    tracking-fault-requires
     returns-2)

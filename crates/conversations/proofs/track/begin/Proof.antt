@@ -22,28 +22,21 @@ enum-told-3 c = search needs
 enum-told-4 : tie.Need-enum-told-4
 enum-told-4 c = search needs
 
-enum-told-5 : tie.Need-enum-told-5
-enum-told-5 c = search needs
-
 returns : tie.Need-returns
-returns c = let a = c .before .before .before .before .before .args in
-    c .open-place .ensures ∙ sym (ap (begun (a .m) (a .g) (placesOf (a .ps .now))) (c .before .before .enum-told .given .1))
+returns c = let a = c .before .before .before .before .args in
+    c .open-place .ensures ∙ sym (ap (begun (a .m) (a .q) (placesOf (a .ps .now))) (c .before .before .enum-told .given .1))
 
 returns-2 : tie.Need-returns-2
-returns-2 c = let a = c .before .before .before .args in
-    sym (ap (begun (a .m) (a .g) (placesOf (a .ps .now))) (c .enum-told2 .given .1))
+returns-2 c = let a = c .before .before .args in
+    sym (ap (begun (a .m) (a .q) (placesOf (a .ps .now))) (c .enum-told2 .given .1))
 
 returns-3 : tie.Need-returns-3
-returns-3 c = let a = c .before .before .before .args in
-    sym (ap (begun (a .m) (a .g) (placesOf (a .ps .now))) (c .enum-told3 .given .1))
+returns-3 c = let a = c .before .before .args in
+    sym (ap (begun (a .m) (a .q) (placesOf (a .ps .now))) (c .enum-told3 .given .1))
 
 returns-4 : tie.Need-returns-4
-returns-4 c = let a = c .before .before .before .args in
-    sym (ap (begun (a .m) (a .g) (placesOf (a .ps .now))) (c .enum-told4 .given .1))
-
-returns-5 : tie.Need-returns-5
-returns-5 c = let a = c .before .before .before .args in
-    sym (ap (begun (a .m) (a .g) (placesOf (a .ps .now))) (c .enum-told5 .given .1))
+returns-4 c = let a = c .before .before .args in
+    sym (ap (begun (a .m) (a .q) (placesOf (a .ps .now))) (c .enum-told4 .given .1))
 
 pub begin-spec : {M : Type 1} → statement M
 begin-spec =
@@ -54,9 +47,7 @@ begin-spec =
     enum-told-2
     enum-told-3
     enum-told-4
-    enum-told-5
     returns
     returns-2
     returns-3
-    returns-4
-    returns-5)
+    returns-4)

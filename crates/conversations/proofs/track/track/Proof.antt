@@ -1,58 +1,28 @@
 -- `conversations::track::track` meets its contract.
 -- Assumes nothing.
-use Rattle.conversations.proofs.TrackLaws.{track-held, track-none}
+use mathlib.Core.Path.{sym, ap, _∙_}
+use Rattle.places.specs.Places.{placesOf}
+use Rattle.conversations.specs.Tracking.{trackedIn}
 use borrow.Author.Needs.{needs}
 use Rattle.conversations.proofs.track.track.Statement.{statement}
 use Rattle.conversations.proofs.track.track.Tie as tie
 
-tell-places-requires : tie.Need-tell-places-requires
-tell-places-requires c κs = search needs
+enum-told : tie.Need-enum-told
+enum-told c = search needs
 
-find-quad-requires : tie.Need-find-quad-requires
-find-quad-requires c κs = search needs
+enum-known-flags : tie.Need-enum-known-flags
+enum-known-flags c = search needs
 
-mul-state : tie.Need-mul-state
-mul-state c = search needs
-
-index-1-state : tie.Need-index-1-state
-index-1-state c = search needs
-
-state-requires : tie.Need-state-requires
-state-requires c κs = search needs
-
-phase-of-requires : tie.Need-phase-of-requires
-phase-of-requires c κs = search needs
-
-next-of-requires : tie.Need-next-of-requires
-next-of-requires c κs = search needs
-
-move-place-requires : tie.Need-move-place-requires
-move-place-requires c κs = search needs
+take-step-requires : tie.Need-take-step-requires
+take-step-requires c κs = search needs
 
 returns : tie.Need-returns
-returns c = let a = c .before .before .before .before .before .before .before .before .before .before .before .before .args in
-    track-held (a .m) (a .g) (a .ps .now) _ (c .before .before .before .before .before .before .before .find-quad .ensures) (c .before .before .before .before .before .before .before .before .before .tell-places .ensures) _ _ _ _ (c .before .before .before .before .before .before .if1 .taken)
-    (c .before .before .before .before .state .ensures) (c .before .before .before .phase-of .ensures) (c .before .before .next-of .ensures) (c .move-place .ensures)
-
-begin-requires : tie.Need-begin-requires
-begin-requires c κs = search needs
+returns c = let a = c .before .before .before .args in
+    sym (ap (trackedIn (a .m) (a .g .quad) (placesOf (a .ps .now))) (c .enum-told .given .1))
 
 returns-2 : tie.Need-returns-2
-returns-2 c = let a = c .before .before .before .before .before .before .before .before .args in
-    track-none (a .m) (a .g) (a .ps .now) _ (c .before .before .before .find-quad .ensures) (c .before .before .before .before .before .tell-places .ensures) _ (c .before .before .if1 .left) (c .begin .ensures)
+returns-2 c = let a = c .before .before .before .before .before .before .args in
+    c .take-step .ensures ∙ sym (ap (trackedIn (a .m) (a .g .quad) (placesOf (a .ps .now))) (c .before .before .before .flags .given .1))
 
 pub track-spec : {M : Type 1} → statement M
-track-spec =
-    tie.close
-    (tie.spec
-    tell-places-requires
-    find-quad-requires
-    mul-state
-    index-1-state
-    state-requires
-    phase-of-requires
-    next-of-requires
-    move-place-requires
-    returns
-    begin-requires
-    returns-2)
+track-spec = tie.close (tie.spec enum-told enum-known-flags take-step-requires returns returns-2)

@@ -5,7 +5,8 @@ use Rattle.table.specs.declared.Ipv4Settings.{Ipv4Settings}
 use Rattle.table.specs.declared.TransportSettings.{TransportSettings}
 use Rattle.table.specs.declared.SomeipSettings.{SomeipSettings}
 use Rattle.matching.specs.Matching.{linkMatches, ipv4Matches, transportMatches, someipMatches, layerTests}
-use Rattle.numbers.proofs.Leading.{count-stops, count-goes}
+use Rattle.numbers.proofs.Leading.{count-goes}
+use Rattle.numbers.proofs.Tests.{cond-stops}
 use borrow.Author.Needs.{needs}
 use Rattle.matching.proofs.rules.layers_matched.Statement.{statement}
 use Rattle.matching.proofs.rules.layers_matched.Tie as tie
@@ -41,7 +42,7 @@ link-matches-requires c κs = search needs
 
 returns : tie.Need-returns
 unfolding layerTests
-returns c = count-stops _ (link-told (c .before)) (c .if1 .taken)
+returns c = cond-stops _ (link-told (c .before)) (c .if1 .taken)
 
 ipv4-requires : tie.Need-ipv4-requires
 ipv4-requires c κs = search needs
@@ -53,7 +54,7 @@ returns-2 : tie.Need-returns-2
 unfolding layerTests
 returns-2 c =
     let a = c .before .before .before in
-    count-goes (link-told (a .before)) (a .if1 .left) (count-stops _ (ipv4-told (c .before)) (c .if2 .taken))
+    count-goes (link-told (a .before)) (a .if1 .left) (cond-stops _ (ipv4-told (c .before)) (c .if2 .taken))
 
 transport-requires : tie.Need-transport-requires
 transport-requires c κs = search needs
@@ -67,7 +68,7 @@ returns-3 c =
     let b = c .before .before .before in
     let a = b .before .before .before in
     count-goes (link-told (a .before)) (a .if1 .left)
-    (count-goes (ipv4-told (b .before)) (b .if2 .left) (count-stops _ (transport-told (c .before)) (c .if3 .taken)))
+    (count-goes (ipv4-told (b .before)) (b .if2 .left) (cond-stops _ (transport-told (c .before)) (c .if3 .taken)))
 
 someip-requires : tie.Need-someip-requires
 someip-requires c κs = search needs
@@ -83,7 +84,7 @@ returns-4 c =
     let a = b .before .before .before in
     count-goes (link-told (a .before)) (a .if1 .left)
     (count-goes (ipv4-told (b .before)) (b .if2 .left)
-    (count-goes (transport-told (d .before)) (d .if3 .left) (count-stops _ (someip-told (c .before)) (c .if4 .taken))))
+    (count-goes (transport-told (d .before)) (d .if3 .left) (cond-stops _ (someip-told (c .before)) (c .if4 .taken))))
 
 returns-5 : tie.Need-returns-5
 unfolding layerTests

@@ -1,17 +1,17 @@
 -- Test by test, up to the first that fails.
 use mathlib.Core.Path.{refl}
-use Rattle.numbers.proofs.Leading.{count-stops, count-goes, count-skips}
+use Rattle.numbers.proofs.Tests.{cond-stops, cond-goes, cond-skips}
 use Rattle.table.specs.Settings.{of16}
 use Rattle.ranges.proofs.Rules.{any-good}
 use borrow.Author.Needs.{needs}
-use Rattle.ranges.proofs.link_passed.Statement.{statement}
-use Rattle.ranges.proofs.link_passed.Tie as tie
+use Rattle.ranges.proofs.link_fault.Statement.{statement}
+use Rattle.ranges.proofs.link_fault.Tie as tie
 
 within64-requires : tie.Need-within64-requires
 within64-requires c κs = search needs
 
 returns : tie.Need-returns
-returns c = count-stops _ (c .before .within64 .ensures) (c .if1 .taken)
+returns c = cond-stops _ (c .before .within64 .ensures) (c .if1 .taken)
 
 within64-requires-2 : tie.Need-within64-requires-2
 within64-requires-2 c κs = search needs
@@ -19,7 +19,7 @@ within64-requires-2 c κs = search needs
 returns-2 : tie.Need-returns-2
 returns-2 c =
     let a = c .before .before in
-    count-goes (a .before .within64 .ensures) (a .if1 .left) (count-stops _ (c .before .within642 .ensures) (c .if2 .taken))
+    cond-goes _ (a .before .within64 .ensures) (a .if1 .left) (cond-stops _ (c .before .within642 .ensures) (c .if2 .taken))
 
 within16-requires : tie.Need-within16-requires
 within16-requires c κs = search needs
@@ -28,8 +28,8 @@ returns-3 : tie.Need-returns-3
 returns-3 c =
     let b = c .before .before in
     let a = b .before .before in
-    count-goes (a .before .within64 .ensures) (a .if1 .left)
-    (count-goes (b .before .within642 .ensures) (b .if2 .left) (count-stops _ (c .before .within16 .ensures) (c .if3 .taken)))
+    cond-goes _ (a .before .within64 .ensures) (a .if1 .left)
+    (cond-goes _ (b .before .within642 .ensures) (b .if2 .left) (cond-stops _ (c .before .within16 .ensures) (c .if3 .taken)))
 
 within8-requires : tie.Need-within8-requires
 within8-requires c κs = search needs
@@ -39,22 +39,22 @@ returns-4 c =
     let d = c .before .before in
     let b = d .before .before in
     let a = b .before .before in
-    count-goes (a .before .within64 .ensures) (a .if1 .left)
-    (count-goes (b .before .within642 .ensures) (b .if2 .left)
-    (count-goes (d .before .within16 .ensures) (d .if3 .left) (count-stops _ (c .before .within8 .ensures) (c .if4 .taken))))
+    cond-goes _ (a .before .within64 .ensures) (a .if1 .left)
+    (cond-goes _ (b .before .within642 .ensures) (b .if2 .left)
+    (cond-goes _ (d .before .within16 .ensures) (d .if3 .left) (cond-stops _ (c .before .within8 .ensures) (c .if4 .taken))))
 
 returns-5 : tie.Need-returns-5
 returns-5 c =
     let d = c .before .before in
     let b = d .before .before in
     let a = b .before .before in
-    count-goes (a .before .within64 .ensures) (a .if1 .left)
-    (count-goes (b .before .within642 .ensures) (b .if2 .left)
-    (count-goes (d .before .within16 .ensures) (d .if3 .left)
-    (count-goes (c .before .within8 .ensures) (c .if4 .left) (count-skips (any-good (of16 (a .before .before .args .s .ether))) refl))))
+    cond-goes _ (a .before .within64 .ensures) (a .if1 .left)
+    (cond-goes _ (b .before .within642 .ensures) (b .if2 .left)
+    (cond-goes _ (d .before .within16 .ensures) (d .if3 .left)
+    (cond-goes _ (c .before .within8 .ensures) (c .if4 .left) (cond-skips _ (any-good (of16 (a .before .before .args .s .ether))) refl))))
 
-pub link-passed-spec : {M : Type 1} → statement M
-link-passed-spec =
+pub link-fault-spec : {M : Type 1} → statement M
+link-fault-spec =
     tie.close
     (tie.spec
     within64-requires

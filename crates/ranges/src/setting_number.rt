@@ -1,0 +1,54 @@
+// The settings of a rule by number, for whoever is told which one is at fault. A number never changes once given.
+pub struct SettingNumber {
+    pub number: u8,
+}
+
+// In the paper's order of settings.
+impl SettingNumber {
+    pub const ID: SettingNumber = SettingNumber { number: 0 };
+
+    pub const ACTION: SettingNumber = SettingNumber { number: 28 };
+
+    pub const DESTINATION_MAC: SettingNumber = SettingNumber { number: 1 };
+
+    pub const SOURCE_MAC: SettingNumber = SettingNumber { number: 2 };
+
+    pub const VLAN_ID: SettingNumber = SettingNumber { number: 3 };
+
+    pub const PRIORITY: SettingNumber = SettingNumber { number: 4 };
+
+    pub const ETHER_TYPE: SettingNumber = SettingNumber { number: 5 };
+
+    pub const IPV4_SOURCE: SettingNumber = SettingNumber { number: 6 };
+
+    pub const IPV4_DESTINATION: SettingNumber = SettingNumber { number: 7 };
+
+    pub const IPV4_PROTOCOL: SettingNumber = SettingNumber { number: 8 };
+
+    pub const KIND: SettingNumber = SettingNumber { number: 9 };
+
+    pub const SOURCE_PORTS: SettingNumber = SettingNumber { number: 10 };
+
+    pub const DESTINATION_PORTS: SettingNumber = SettingNumber { number: 11 };
+
+    pub const SERVICE: SettingNumber = SettingNumber { number: 12 };
+
+    pub const METHOD: SettingNumber = SettingNumber { number: 13 };
+
+    pub const PROTOCOL_VERSION: SettingNumber = SettingNumber { number: 14 };
+
+    pub const MESSAGE_TYPE: SettingNumber = SettingNumber { number: 15 };
+
+    pub const RETURN_CODE: SettingNumber = SettingNumber { number: 16 };
+
+    pub const BUCKET_SIZE: SettingNumber = SettingNumber { number: 17 };
+
+    pub const REFILL: SettingNumber = SettingNumber { number: 18 };
+
+    pub const PLACES: SettingNumber = SettingNumber { number: 19 };
+
+    pub const IDLE_LIMIT: SettingNumber = SettingNumber { number: 20 };
+
+    // The fault is not in a setting of a rule.
+    pub const NONE: SettingNumber = SettingNumber { number: 255 };
+}
