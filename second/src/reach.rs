@@ -7,7 +7,7 @@ use crate::faults::{BadTable, RECORD_FAULTS};
 use crate::layers::{self, be16, be32, Kind, Layers, ACK, ETHER_IPV4, ETHER_TAG, FIN, RST, SYN};
 use crate::records::{Quadruple, Records, FREE, HIGHEST_LEVEL};
 use crate::setting;
-use crate::table::{set, Table, PLACES, RULES, SETTINGS_AT_FAULT};
+use crate::table::{set, Table, CAN_BE_AT_FAULT, PLACES, RULES};
 
 pub const HELD_NAMES: [&str; 4] = ["none", "opening", "running", "closing"];
 
@@ -127,7 +127,7 @@ impl Reach {
         let mut names: Vec<String> = NAMES.iter().chain(&LAST_NAMES).map(|name| name.to_string()).collect();
         names.extend(VERDICTS.map(|verdict| format!("verdict-{}", verdict.number())));
         names.extend((1..7).map(|refusal| format!("refusal-{refusal}")));
-        names.extend([setting::ID, setting::NONE].iter().chain(&SETTINGS_AT_FAULT).map(|number| setting_name(*number)));
+        names.extend([setting::ID, setting::NONE].iter().chain(&CAN_BE_AT_FAULT).map(|number| setting_name(*number)));
         names.extend(BadTable::all().into_iter().map(BadTable::name));
         names.extend(RECORD_FAULTS.map(|fault| format!("record-fault-{fault}")));
         names.extend((0..4).flat_map(|held| flag_sets().map(move |flags| flags_name(held, flags))));

@@ -1,4 +1,4 @@
-//! The numbers of a rule's settings, as a refused table names them (02, 1/12). A number never changes once given.
+//! The numbers of a rule's settings, by which a refused table names one (02, 1/12). They are those of the case stream's page: 02 gives none. A number never changes once given.
 
 pub const ID: u8 = 0;
 pub const DEST_MAC: u8 = 1;

@@ -116,10 +116,10 @@ impl Rule {
         self.set & settings != 0
     }
 
-    /// Which of `SETTINGS_AT_FAULT` are, as 02 names a fault: half a pair by its set half, ports without a kind by their first
+    /// Which of `CAN_BE_AT_FAULT` are, as 02 names a fault: half a pair by its set half, ports without a kind by their first
     /// range, misplaced tracking by its first set half. No test is skipped for another: that is faster than to branch.
     #[inline]
-    fn faults(&self) -> [bool; SETTINGS_AT_FAULT.len()] {
+    fn faults(&self) -> [bool; CAN_BE_AT_FAULT.len()] {
         let (kind, tcp) = (self.has(set::KIND), self.kind == Kind::Tcp);
         let misplaced = (self.action == Action::Block) | !kind | !tcp;
         let (places, idle) = (self.has(set::PLACES), self.has(set::IDLE));
@@ -143,15 +143,15 @@ impl Rule {
         self.faults().into_iter().fold(self.id == NO_RULE, |any, fault| any | fault)
     }
 
-    /// The settings at fault beside the id, in 01's order.
+    /// The settings at fault beside the id, in 01's order, as 02 names them: misplaced tracking by its first set half alone.
     pub fn settings_at_fault(&self) -> impl Iterator<Item = u8> {
-        let faults = SETTINGS_AT_FAULT.into_iter().zip(self.faults());
+        let faults = CAN_BE_AT_FAULT.into_iter().zip(self.faults());
         faults.filter(|(_, at_fault)| *at_fault).map(|(setting, _)| setting)
     }
 }
 
 /// The settings beside the id that can be at fault, in 01's order. Every other holds no more than it may.
-pub const SETTINGS_AT_FAULT: [u8; 10] = [
+pub const CAN_BE_AT_FAULT: [u8; 10] = [
     setting::VLAN,
     setting::PRIORITY,
     setting::SOURCE,

@@ -12,7 +12,7 @@ use Rattle.ranges.specs.Ranges.{faultIn}
 use Rattle.faults.specs.Faults.{freshId, testsAt, faulty, statesGood, tableFault, faultOf}
 use Rattle.table.specs.declared.Table.{Table}
 use Rattle.faults.specs.declared.Fault.the-variants as fault
-use Rattle.ranges.proofs.Tests.{one-fails, none-fails}
+use Rattle.ranges.proofs.Tests.{IsNone, one-fails, none-fails}
 use Rattle.ranges.proofs.Rules.{rule-named}
 
 pub fault-count : (t : Table) → mostRules < t .rulecount → fault.At tableFault ≡ faultOf t
@@ -23,7 +23,7 @@ module _ (t : Table) (small : t .rulecount ≤ mostRules) where
   pub fault-here :
       (i : ℕ) {n : SettingNumber} → i < t .rulecount
       → firstFrom (faulty t) i (t .rulecount - i) ≡ first (faulty t) (t .rulecount)
-      → n ≡ faultIn (testsAt t i) → (n .number ≡ 255 → ⊥) → fault.At (record { place = i; setting = n }) ≡ faultOf t
+      → n ≡ faultIn (testsAt t i) → (IsNone n → ⊥) → fault.At (record { place = i; setting = n }) ≡ faultOf t
   unfolding faultOf faulty
   fault-here i h f e k =
       let bad : faulty t i ≡ true = ap not (one-fails (testsAt t i) (λ q. k (ap (λ (x : SettingNumber). x .number) e ∙ q))) in
@@ -33,7 +33,7 @@ module _ (t : Table) (small : t .rulecount ≤ mostRules) where
   pub fault-next :
       (i : ℕ) {n : SettingNumber} → i < t .rulecount
       → firstFrom (faulty t) i (t .rulecount - i) ≡ first (faulty t) (t .rulecount)
-      → n ≡ faultIn (testsAt t i) → n .number ≡ 255
+      → n ≡ faultIn (testsAt t i) → IsNone n
       → firstFrom (faulty t) (i + 1) (t .rulecount - (i + 1)) ≡ first (faulty t) (t .rulecount)
   unfolding faulty
   fault-next i h f e k =

@@ -13,7 +13,7 @@ use Rattle.numbers.proofs.Elements.{everyOf-any}
 use Rattle.table.specs.Settings.{Setting, unset, set, of8, of32, ofKind}
 use Rattle.table.specs.Table.{mostRules, mostStates, isAllow, isTcp, trackingFrom, trackingOf, ruleAt, stateAt, marked}
 use Rattle.ranges.specs.Numbers as setting
-use Rattle.ranges.specs.Ranges.{mayTrack, fromTo, knownAction, halfGood, Test, test, good, ruleTests, allGood}
+use Rattle.ranges.specs.Ranges.{mayTrack, fromTo, knownAction, halfGood, Test, test, testGood, ruleTests, allGood}
 use Rattle.faults.specs.Faults.{freshId, testsAt, faulty, marksGood, stateGood, statesGood, ruleFault, tableFault, faultOf}
 use Rattle.table.specs.declared.Rule.{Rule}
 use Rattle.table.specs.declared.Room.{Room}
@@ -78,7 +78,7 @@ module _ (t : Table) (whole : faultOf t ≡ fault.Good) where
   pub good-id : (i : ℕ) → i < t .rulecount → ruleAt t i .id ≤ 65534
   unfolding ruleTests
   good-id i h =
-      leb-true (ruleAt t i .id) 65534 (and-both (leb (ruleAt t i .id) 65534) (freshId t i) (everyOf-any good noTest refl (testsAt t i) (good-rule i h) 0) .0)
+      leb-true (ruleAt t i .id) 65534 (and-both (leb (ruleAt t i .id) 65534) (freshId t i) (everyOf-any testGood noTest refl (testsAt t i) (good-rule i h) 0) .0)
 
 -- "1-8 places and an idle limit of 1-600,000 ms"
 tracks :
@@ -96,8 +96,8 @@ tracks (set p) (set l) may m a b e =
     ((rw (← f) (leb-true 1 p (u .0)), rw (← f) (leb-true p 8 (u .1)), rw (← f) (leb-true 1 l (v .0)), rw (← f) (leb-true l 600000 (v .1))), g .1)
 
 module _ (fresh : Bool) (r : Rule) (all : allGood (ruleTests fresh r) ≡ true) (m : Room) (e : trackingOf r ≡ tracking.Set m) where
-  half : (i : ℕ) → good (getD (fromTracking r) i noTest) ≡ true
-  half i = everyOf-any good noTest refl (fromTracking r) (tracking-good fresh r all) i
+  half : (i : ℕ) → testGood (getD (fromTracking r) i noTest) ≡ true
+  half i = everyOf-any testGood noTest refl (fromTracking r) (tracking-good fresh r all) i
 
   tracked : ((1 ≤ m .places) × (m .places ≤ 8) × (1 ≤ m .limit) × (m .limit ≤ 600000)) × (mayTrack r ≡ true)
   unfolding trackingOf

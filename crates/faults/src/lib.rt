@@ -9,6 +9,7 @@ ghost use Rattle.table.specs.Table.{mostRules, mostStates};
 ghost use Rattle.table.specs.Words.{tableIn};
 ghost use Rattle.faults.specs.Faults.{marksGood, stateGood, statesGood, Listed, faultOf};
 use ranges::rule_fault;
+use ranges::setting_number::NO_SETTING;
 use ranges::setting_number::SettingNumber;
 use ranges::within::action_good;
 use table::words::*;
@@ -30,8 +31,6 @@ const IN_NO_RULE: AtFault = AtFault {
     place: RULES,
     setting: SettingNumber::NONE,
 };
-
-const NONE: u8 = SettingNumber::NONE.number;
 
 // The id of no good rule: it stands behind the last.
 const NO_ID: u16 = 65535;
@@ -143,7 +142,7 @@ pub fn first_fault(t: &TableWords) -> Fault
     let mut i = 0;
     while i < count {
         let setting = rule_fault(is_new(&ids, i), &t[i]);
-        if setting.number != NONE {
+        if setting.number != NO_SETTING {
             return Fault::At(AtFault { place: i, setting });
         }
         i += 1;

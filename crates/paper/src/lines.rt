@@ -138,7 +138,7 @@ fn m5(k: usize) -> Line
     line_of(M5[k - 4])
 }
 
-// "M6 valid TCP from 443: ACK first, 41; SYN+ACK then ACK, 0 and 0".
+// "M6 valid TCP from 443: ACK first, 4; SYN+ACK then ACK, 0 and 0", and "M6's first becomes 41".
 const M6: [Row; 3] = [
     Row(6, true, 0, Frame::Ack1, NO_CONVERSATION),
     Row(6, false, 0, Frame::SynAck1, PASSED_20),

@@ -1,4 +1,5 @@
--- The numbers of a rule's settings, in the paper's order. A number never changes once given. Change request 1/12.
+-- The numbers of a rule's settings, in the paper's order, by which a refused table names one (change request 1/12). The papers give none: these are
+-- the case stream's (docs/CASES.md), and one that comes later takes the next number wherever it stands in the order. A number never changes once given.
 -- Assumes nothing.
 use Prim.Native.Nat.{ℕ}
 use Rattle.ranges.specs.declared.setting_number.SettingNumber.{SettingNumber}

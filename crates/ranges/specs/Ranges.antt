@@ -67,8 +67,11 @@ halfGood high half other may = within (fromTo 1 high) half && paired half other 
 pub data Test : Type 0 where
   test : SettingNumber → Bool → Test
 
-abbrev pub good : Test → Bool
-good (test n b) = b
+abbrev pub testGood : Test → Bool
+testGood (test n b) = b
+
+abbrev pub settingOf : Test → SettingNumber
+settingOf (test n b) = n
 
 -- "the id comes first", and right after it the action. `fresh`: no earlier rule has the id.
 abbrev pub headTests : Bool → Rule → List Test
@@ -136,7 +139,7 @@ ruleTests fresh r =
 
 -- a rule is good by itself if all its tests pass
 abbrev pub allGood : List Test → Bool
-allGood l = everyOf good l
+allGood l = everyOf testGood l
 
 -- "the first setting at fault in 01's order": that of the first test that fails, none where all pass
 abbrev pub faultIn : List Test → SettingNumber

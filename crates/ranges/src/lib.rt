@@ -6,6 +6,7 @@ ghost use Rattle.ranges.specs.Ranges.{headTests, linkTests, ipv4Tests, t
 pub mod setting_number;
 pub mod within;
 
+use setting_number::NO_SETTING;
 use setting_number::SettingNumber;
 use table::settings::*;
 use table::words::*;
@@ -14,9 +15,6 @@ use within::*;
 
 // How many places a rule may have, as its setting says it.
 const MOST_PLACES: u8 = PLACES as u8;
-
-// What stands where no setting is at fault.
-const NONE: u8 = SettingNumber::NONE.number;
 
 // The first setting of a layer that is at fault, in the paper's order. One whose every value is good is not looked at.
 fn link_fault(s: LinkSettings) -> SettingNumber
@@ -190,23 +188,23 @@ pub fn rule_fault(fresh: bool, r: &RuleWords) -> SettingNumber
     ensures { λ n. ⌜ n ≡ faultIn (ruleTests fresh (ruleIn (now (r .entry)))) ⌝ }
 {
     let head = head_fault(fresh, r);
-    if head.number != NONE {
+    if head.number != NO_SETTING {
         return head;
     }
     let links = link_in_row(r);
-    if links.number != NONE {
+    if links.number != NO_SETTING {
         return links;
     }
     let ips = ipv4_in_row(r);
-    if ips.number != NONE {
+    if ips.number != NO_SETTING {
         return ips;
     }
     let transports = transport_in_row(r);
-    if transports.number != NONE {
+    if transports.number != NO_SETTING {
         return transports;
     }
     let rates = rate_in_row(r);
-    if rates.number != NONE {
+    if rates.number != NO_SETTING {
         return rates;
     }
     tracking_in_row(r)

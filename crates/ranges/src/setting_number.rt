@@ -1,4 +1,16 @@
 // The settings of a rule by number, for whoever is told which one is at fault. A number never changes once given.
+ghost use mathlib.Core.Path.{_≡_};
+ghost use mathlib.Core.Bool.{true};
+ghost use mathlib.Core.List.{map};
+ghost use Rattle.table.specs.Table.{noRule};
+ghost use Rattle.ranges.specs.Ranges.{settingOf, ruleTests};
+
+// How many settings a rule has, its id and its action among them.
+pub const SETTINGS: usize = 22;
+
+// The number that stands for none of them.
+pub const NO_SETTING: u8 = SettingNumber::NONE.number;
+
 pub struct SettingNumber {
     pub number: u8,
 }
@@ -51,4 +63,34 @@ impl SettingNumber {
 
     // The fault is not in a setting of a rule.
     pub const NONE: SettingNumber = SettingNumber { number: 255 };
+
+    // All of them, in the order in which a fault is looked for.
+    pub fn in_order() -> [SettingNumber; SETTINGS]
+        ensures { λ l. ⌜ l ≡ map settingOf (ruleTests true noRule) ⌝ }
+    {
+        [
+            SettingNumber::ID,
+            SettingNumber::ACTION,
+            SettingNumber::DESTINATION_MAC,
+            SettingNumber::SOURCE_MAC,
+            SettingNumber::VLAN_ID,
+            SettingNumber::PRIORITY,
+            SettingNumber::ETHER_TYPE,
+            SettingNumber::IPV4_SOURCE,
+            SettingNumber::IPV4_DESTINATION,
+            SettingNumber::IPV4_PROTOCOL,
+            SettingNumber::KIND,
+            SettingNumber::SOURCE_PORTS,
+            SettingNumber::DESTINATION_PORTS,
+            SettingNumber::SERVICE,
+            SettingNumber::METHOD,
+            SettingNumber::PROTOCOL_VERSION,
+            SettingNumber::MESSAGE_TYPE,
+            SettingNumber::RETURN_CODE,
+            SettingNumber::BUCKET_SIZE,
+            SettingNumber::REFILL,
+            SettingNumber::PLACES,
+            SettingNumber::IDLE_LIMIT,
+        ]
+    }
 }

@@ -75,8 +75,8 @@ idAt t d = cond (ltb d default) (ruleAt t d .id) 65535
 abbrev pub wrongStep : ℕ → Bool
 wrongStep verdict = eqb verdict wrongFlags || (eqb verdict noConversation || eqb verdict notInState)
 
--- "3 gives event 64 and 4 gives 63. 5 gives 001's event for too many TCP connections. 6 gives the mismatch event of the best fit";
--- "Verdicts 0, 1 and 2 have no event"
+-- "3 gives event 64"; for 40, 41 and 42 "Event 63 stays"; "5 gives 001's event for too many TCP connections";
+-- "6 gives the mismatch event of the best fit"; "Verdicts 0, 1 and 2 have no event"
 unfoldable pub eventFor : ℕ → Report
 eventFor verdict =
     cond (eqb verdict overRate) (report.Own event.Ratelimit)

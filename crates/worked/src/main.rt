@@ -1,4 +1,5 @@
-// Judges M1 to M11 of the paper's worked set through the entry points and prints them: the table, then a line for each frame; then what a wrong step and a wrong table are answered.
+// Judges M1 to M11 of the paper's worked set and prints them, a line for each frame; then what a wrong step and a wrong table are answered.
+// Everything goes through the entry points.
 mod expected;
 mod page;
 mod print;
@@ -34,6 +35,7 @@ fn fresh(t: &TableWords, head: &mut Head, counts: &mut Counts, places: &mut Plac
         return;
     };
     words::refused(r, t);
+    text(b"\n");
 }
 
 // One frame judged and printed; was it answered as the paper says?
@@ -51,7 +53,7 @@ fn show(
     let mut space = [0u8; ROOM];
     let answer = firewall::judge(t, head, counts, places, &bytes[0..n], l.reading, &mut space);
     page::asked(l.example, f, l.reading);
-    let gap = page::answered(answer, &space);
+    let gap = page::answered(answer, t, &space);
     page::records(t, counts, places, gap);
     expected::met(e, answer, &space)
 }
@@ -143,4 +145,5 @@ fn main() {
     fresh(&t, &mut head, &mut counts, &mut places);
     wrong::steps(&t, &mut head, &mut counts, &mut places);
     wrong::tables(&mut head, &mut counts, &mut places);
+    words::settings();
 }

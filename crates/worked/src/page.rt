@@ -6,10 +6,10 @@ use crate::print::spaces;
 use crate::print::text;
 use crate::print::wide8;
 use crate::print::wide16;
+use crate::words;
 use events::Event;
 use events::ROOM;
 use firewall::Judged;
-use firewall::refusal::Refusal;
 use numbers::count8;
 use numbers::read16;
 use numbers::wide64;
@@ -78,27 +78,13 @@ fn frame(f: Frame) {
 }
 
 // What was answered, and how many spaces are to stand before the records.
-pub(crate) fn answered(answer: Judged, space: &[u8; ROOM]) -> usize {
+pub(crate) fn answered(answer: Judged, t: &TableWords, space: &[u8; ROOM]) -> usize {
     match answer {
-        Judged::Refused(r) => refused(r),
-        Judged::Answered(a) => judged(a, space),
-    }
-}
-
-fn refused(r: Refusal) -> usize {
-    let n = r.number;
-    text(b"refused ");
-    number(wide8(n));
-    match n {
-        Refusal::TOO_SHORT => {
-            text(b" too short");
-            55
-        }
-        Refusal::TOO_LONG => {
-            text(b" too long");
+        Judged::Refused(r) => {
+            words::refused(r, t);
             56
         }
-        _ => 65,
+        Judged::Answered(a) => judged(a, space),
     }
 }
 

@@ -1,14 +1,17 @@
-// A refused table in words: the rule at fault and its setting.
+// What is refused, in words; and the settings, each by its number.
 use crate::print::number;
+use crate::print::right;
 use crate::print::text;
 use crate::print::wide8;
 use crate::print::wide16;
 use firewall::refusal::Refusal;
+use ranges::setting_number::SETTINGS;
 use ranges::setting_number::SettingNumber;
 use table::RULES;
 use table::words::TableWords;
 use table::words::id;
 
+// As numbers, since a pattern is a number.
 const ID: u8 = SettingNumber::ID.number;
 
 const ACTION: u8 = SettingNumber::ACTION.number;
@@ -53,13 +56,22 @@ const PLACES: u8 = SettingNumber::PLACES.number;
 
 const IDLE_LIMIT: u8 = SettingNumber::IDLE_LIMIT.number;
 
-// Which rule, by its id and its place, and which of its settings; or that no rule is at fault.
+// A refusal by its number; of a bad table also which rule, by its id and its place, and which of its settings, or that no rule is at fault.
 pub(crate) fn refused(r: Refusal, t: &TableWords) {
+    let n = r.number;
     text(b"refused ");
-    number(wide8(r.number));
-    if r.number != Refusal::BAD_TABLE {
-        return text(b"\n");
+    number(wide8(n));
+    match n {
+        Refusal::TOO_SHORT => text(b" too short"),
+        Refusal::TOO_LONG => text(b" too long"),
+        Refusal::NO_SPACE => text(b" event space too small"),
+        Refusal::BAD_TABLE => at_fault(r, t),
+        Refusal::BAD_RECORD => text(b" bad record"),
+        _ => text(b" no such state"),
     }
+}
+
+fn at_fault(r: Refusal, t: &TableWords) {
     let place = r.place;
     if place < RULES {
         text(b" rule ");
@@ -71,7 +83,21 @@ pub(crate) fn refused(r: Refusal, t: &TableWords) {
     } else {
         text(b" the states or the rule count");
     }
-    text(b"\n");
+}
+
+// The page of the settings by number.
+pub(crate) fn settings() {
+    text(b"\nthe settings by number, in the order in which a fault is looked for\n");
+    let all = SettingNumber::in_order();
+    let mut k = 0;
+    while k < SETTINGS {
+        let s = all[k];
+        right(wide8(s.number), 8);
+        text(b"  ");
+        setting(s.number);
+        text(b"\n");
+        k += 1;
+    }
 }
 
 // By the layers, from the id up.

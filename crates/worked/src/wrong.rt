@@ -46,7 +46,7 @@ fn step(
     left(what, 30);
     right(0, 7);
     text(b"  ");
-    let gap = page::answered(answer, &space);
+    let gap = page::answered(answer, t, &space);
     page::records(t, counts, places, gap);
 }
 
@@ -142,6 +142,7 @@ fn refused(what: &[u8], t: Table, head: &mut Head, counts: &mut Counts, places: 
         return text(b"good\n");
     };
     words::refused(r, &w);
+    text(b"\n");
 }
 
 pub(crate) fn tables(head: &mut Head, counts: &mut Counts, places: &mut Places) {

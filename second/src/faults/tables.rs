@@ -260,6 +260,11 @@ fn two_rules(table: &mut Table, rising: bool, random: &mut Random) -> Refusal {
     let behind = random.between(place + 1, count - 1) as usize;
     later.spoil(table, behind, random);
     assert_eq!(table.check(), Err(later.named_at(behind)), "{}", later.name);
+    let first = table.rules[place as usize];
     earlier.spoil(table, place as usize, random);
+    // the later rule is at fault still, and would be named if the earlier were not
+    let spoiled = std::mem::replace(&mut table.rules[place as usize], first);
+    assert_eq!(table.check(), Err(later.named_at(behind)), "{}", later.name);
+    table.rules[place as usize] = spoiled;
     earlier.named_at(place as usize)
 }

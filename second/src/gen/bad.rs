@@ -38,6 +38,7 @@ impl<W: Write> Gen<W> {
     fn high_rule(&mut self, records: &mut Records, place: usize) {
         let rule = self.table.rules[place];
         if rule.has(set::RATE) {
+            // 0 twice, so that a short stream too meets a level at the highest
             records.levels[place] = HIGHEST_LEVEL - self.random.pick(&[0, 0, 1, 999, 1_000, 1_001, 3_000]);
         }
         if !rule.has(set::TRACKING) {
