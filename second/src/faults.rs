@@ -4,12 +4,13 @@ mod tables;
 
 pub use tables::BadTable;
 
+use crate::layers::Addresses;
 use crate::random::Random;
 use crate::records::{Conversation, Quadruple, Records, FREE, HIGHEST_LEVEL, OPENING};
 use crate::table::{set, Rule, Table, PLACES, RULES};
 
 /// Those that only an image can bring come last, since all conversations are gone after them.
-pub const RECORD_FAULTS: [&str; 9] = [
+pub const RECORD_FAULTS: [&str; 10] = [
     "state-missing",
     "level-without-bucket",
     "level-beyond-rules",
@@ -19,6 +20,7 @@ pub const RECORD_FAULTS: [&str; 9] = [
     "age-at-limit",
     "level-above-highest",
     "quadruple-twice",
+    "quadruple6-twice",
 ];
 
 /// The first place whose rule is as asked.
@@ -48,10 +50,13 @@ pub fn spoil_records(records: &mut Records, table: &Table, fault: &str, random: 
             let place = place_of(table, |rule| tracked(rule) && usize::from(rule.places) < PLACES)?;
             hold(records, place, usize::from(table.rules[place].places), 0);
         }
-        "quadruple-twice" => {
+        "quadruple-twice" | "quadruple6-twice" => {
             let place = place_of(table, |rule| tracked(rule) && rule.places > 1)?;
-            hold(records, place, 0, 0);
-            hold(records, place, usize::from(table.rules[place].places) - 1, 0);
+            let addresses = if fault == "quadruple-twice" { ADDRESSES } else { ADDRESSES6 };
+            for slot in [0, usize::from(table.rules[place].places) - 1] {
+                hold(records, place, slot, 0);
+                records.conversations[place][slot].quadruple.addresses = addresses;
+            }
         }
         "age-at-limit" => {
             let place = place_of(table, tracked)?;
@@ -62,9 +67,12 @@ pub fn spoil_records(records: &mut Records, table: &Table, fault: &str, random: 
     Some(())
 }
 
+const ADDRESSES: Addresses = Addresses::V4 { source: 1, destination: 2 };
+const ADDRESSES6: Addresses = Addresses::V6 { source: [1; 16], destination: [2; 16] };
+
 fn hold(records: &mut Records, place: usize, slot: usize, age: u32) {
     records.held[place][slot] = OPENING;
-    records.conversations[place][slot] = Conversation { quadruple: Quadruple::new(1, 2, 3, 4), age };
+    records.conversations[place][slot] = Conversation { quadruple: Quadruple::new(ADDRESSES, 3, 4), age };
 }
 
 /// A held conversation as asked: its place, slot and age.

@@ -3,15 +3,17 @@
 mod bad;
 mod calls;
 mod conversations;
+mod wishes;
 
 use std::io::{self, Write};
 
 use crate::answer::Refusal;
-use crate::draft::{junk, Draft, DAMAGES};
+use crate::draft::{junk, Draft, Packet, DAMAGES, DAMAGES6};
 use crate::faults::{spoil_records, undercut_records, BadTable, RECORD_FAULTS};
 use crate::image;
 use crate::judge::judge;
-use crate::layers::{self, Kind, ACK, FIN, RST, SYN};
+use crate::layers::{self, Addresses, Kind, ACK, FIN, RST, SYN};
+use crate::modem::Wish;
 use crate::random::Random;
 use crate::reach::{flag_sets, flags_name, Call, Reach};
 use crate::records::{self, Conversation, Quadruple, Records, CLOSING, FREE, HIGHEST_LEVEL, OPENING, RUNNING};
@@ -25,6 +27,8 @@ const PER_TABLE: u64 = 300;
 const TAIL: u64 = 60;
 /// From this many judged calls on, everything named must be reached.
 pub const ENOUGH: u64 = 1_000;
+/// From this many on there is room for each single fault, and for the modem's table, which comes at every fourth.
+const SOME: u64 = 500;
 
 pub struct Gen<W: Write> {
     output: W,
@@ -36,19 +40,23 @@ pub struct Gen<W: Write> {
     /// Judged calls to write in all, and those still to come.
     calls: u64,
     left: u64,
-    /// Faults come in turn, so that each comes before any comes twice.
+    /// Faults come in turn, so that each comes before any comes twice. In a short stream none comes with another.
     bad_tables: Vec<BadTable>,
     table_fault: usize,
     record_fault: usize,
     /// Whether a table stands under which the records are bad.
     undercut: bool,
-    /// Which of the odd lengths and of the damages came last.
+    /// How many of the odd lengths came, and which of the damages came last.
     odd: usize,
     damage: usize,
 }
 
 /// Writes a stream of `calls` judged calls and says what it reached; true if nothing is missing.
 pub fn generate<W: Write>(seed: u64, calls: u64, output: W) -> io::Result<bool> {
+    let mut bad_tables = BadTable::all();
+    if calls < ENOUGH {
+        bad_tables.retain(|bad| bad.has_one_fault());
+    }
     let mut gen = Gen {
         output,
         random: Random::new(seed),
@@ -58,7 +66,7 @@ pub fn generate<W: Write>(seed: u64, calls: u64, output: W) -> io::Result<bool> 
         now: 0,
         calls,
         left: calls,
-        bad_tables: BadTable::all(),
+        bad_tables,
         table_fault: 0,
         record_fault: 0,
         undercut: false,
@@ -78,7 +86,7 @@ pub fn generate<W: Write>(seed: u64, calls: u64, output: W) -> io::Result<bool> 
 /// How many faults of `all` have come once table `number` is done: each at least once in a stream that is long enough,
 /// and `percent` to a table in long ones.
 fn due(all: usize, number: u64, tables: u64, percent: u64, calls: u64) -> usize {
-    let all = all as u64 * calls.min(ENOUGH) / ENOUGH;
+    let all = all as u64 * calls.min(SOME) / SOME;
     let once = (all * (number + 1)).div_ceil(tables);
     once.min(all).max((number + 1) * percent / 100) as usize
 }
@@ -93,6 +101,9 @@ impl<W: Write> Gen<W> {
     }
 
     fn one_table(&mut self, number: u64, tables: u64) -> io::Result<()> {
+        if number % 4 == 0 && self.calls >= SOME {
+            self.modem()?;
+        }
         let good = draw_table(number, &mut self.random);
         self.begin_table(&good)?;
         let share = self.left / (tables - number);
@@ -171,7 +182,7 @@ impl<W: Write> Gen<W> {
                 let frame = draw_frame(&mut self.random).bytes(&mut self.random);
                 self.judge(&frame)?;
             }
-            _ => self.odd_length()?,
+            _ => self.odd_length(true)?,
         }
         match self.random.below(100) {
             0..=2 => self.print(),
@@ -185,7 +196,7 @@ impl<W: Write> Gen<W> {
 
     /// Some frames in each of the states in which few rules are active.
     fn all_states(&mut self) -> io::Result<()> {
-        for state in 1..5 {
+        for state in 1..6 {
             self.switch(state)?;
             for _ in 0..4 {
                 self.tick();
@@ -266,11 +277,16 @@ impl<W: Write> Gen<W> {
     }
 
     fn damaged(&mut self, mut draft: Draft) -> io::Result<()> {
-        if self.random.chance(40) {
+        if draft.packet == Packet::V6 && self.random.chance(30) {
+            draft.damage = self.random.pick(&DAMAGES6);
+            if self.random.chance(70) {
+                draft.show_damage(Packet::V6);
+            }
+        } else if self.random.chance(50) {
             self.damage = (self.damage + 1) % DAMAGES.len();
             draft.damage = DAMAGES[self.damage];
-            if self.random.chance(70) {
-                draft.show_damage();
+            if self.random.chance(85) {
+                draft.show_damage(Packet::V4);
             }
         }
         let frame = draft.bytes(&mut self.random);
@@ -280,13 +296,18 @@ impl<W: Write> Gen<W> {
         self.judge(&frame)
     }
 
-    /// Lengths at the ends of what may be judged, in turn.
-    fn odd_length(&mut self) -> io::Result<()> {
+    /// Lengths at the ends of what may be judged, in turn where the call is judged and not refused before the frame is looked at.
+    fn odd_length(&mut self, in_turn: bool) -> io::Result<()> {
         let any = self.random.below(2_049) as usize;
         let few = self.random.between(1, 13) as usize;
-        let lengths = [0, few, 14, 16, 1_518, 17, 18, 34, 1_519, few, 14, 15, 17, 2_048, 0, 38, 1_517, any];
-        self.odd = (self.odd + 1) % lengths.len();
-        let frame = junk(lengths[self.odd], &mut self.random);
+        let lengths = [0, few, 14, 1_518, 17, 1_519, 2_048, 34, 16, 18, few, 14, 15, 17, 0, 38, 1_517, any];
+        let length = if in_turn {
+            self.odd += 1;
+            lengths[(self.odd - 1) % lengths.len()]
+        } else {
+            self.random.pick(&lengths)
+        };
+        let frame = junk(length, &mut self.random);
         if self.random.chance(15) {
             self.layers(&frame)?;
         }

@@ -1,9 +1,9 @@
 //! Table and record images of the case stream, read and written.
 
-use crate::layers::{be16, be32, mac, Kind};
+use crate::layers::{be128, be16, be32, be64, mac, Addresses, Kind};
 use crate::random::Random;
 use crate::records::{Conversation, Counts, Quadruple, Records, CLOSING, FREE};
-use crate::table::{Action, Prefix, Range, Rule, State, Table, PLACES, RULES, STATES};
+use crate::table::{set, Action, Prefix, Prefix6, Range, Rule, State, Table, PLACES, RULES, STATES};
 
 pub const TABLE_IMAGE: usize = 12_370;
 pub const RECORD_IMAGE: usize = 33_812;
@@ -16,11 +16,7 @@ const RULE_RECORD_IMAGE: usize = 528;
 const PLACES_AT: usize = 16;
 const PLACE_IMAGE: usize = 64;
 /// Above the settings that are known, bits mean nothing yet.
-const KNOWN_SETTINGS: u32 = (1 << 20) - 1;
-
-pub fn be64(bytes: &[u8], at: usize) -> u64 {
-    u64::from(be32(bytes, at)) << 32 | u64::from(be32(bytes, at + 4))
-}
+const KNOWN_SETTINGS: u32 = (1 << 23) - 1;
 
 fn action(byte: u8) -> Action {
     if byte == 0 {
@@ -67,6 +63,9 @@ fn read_rule(image: &[u8]) -> Rule {
         refill: be16(image, 54),
         places: image[56],
         idle: be32(image, 57),
+        source6: Prefix6 { address: be128(image, 61), length: image[77] },
+        destination6: Prefix6 { address: be128(image, 78), length: image[94] },
+        protocol6: image[95],
     }
 }
 
@@ -90,8 +89,11 @@ fn read_place(image: &[u8], records: &mut Records, place: usize, slot: usize) {
     if image[0] == FREE {
         return;
     }
-    let (source, destination) = (be32(image, 1), be32(image, 5));
-    let quadruple = Quadruple::new(source, destination, be16(image, 9), be16(image, 11));
+    let addresses = match image[17] {
+        0 => Addresses::V4 { source: be32(image, 1), destination: be32(image, 5) },
+        _ => Addresses::v6(be128(image, 18), be128(image, 34)),
+    };
+    let quadruple = Quadruple::new(addresses, be16(image, 9), be16(image, 11));
     records.held[place][slot] = image[0].min(CLOSING);
     records.conversations[place][slot] = Conversation { quadruple, age: be32(image, 13) };
 }
@@ -159,6 +161,16 @@ fn write_rule(rule: &Rule, image: &mut [u8], random: &mut Random) {
     put(image, 54, &rule.refill.to_be_bytes());
     image[56] = rule.places;
     put(image, 57, &rule.idle.to_be_bytes());
+    // Where they are not set, the noise stays.
+    for (at, setting, prefix) in [(61, set::SOURCE6, rule.source6), (78, set::DESTINATION6, rule.destination6)] {
+        if rule.has(setting) {
+            put(image, at, &prefix.address.to_be_bytes());
+            image[at + 16] = prefix.length;
+        }
+    }
+    if rule.has(set::PROTOCOL6) {
+        image[95] = rule.protocol6;
+    }
 }
 
 pub fn write_records(records: &Records, random: &mut Random) -> Vec<u8> {
@@ -186,9 +198,28 @@ fn write_place(records: &Records, place: usize, slot: usize, image: &mut [u8], r
         return;
     }
     let conversation = &records.conversations[place][slot];
-    put(image, 1, &conversation.quadruple.source.to_be_bytes());
-    put(image, 5, &conversation.quadruple.destination.to_be_bytes());
+    write_addresses(conversation.quadruple.addresses, image, random);
     put(image, 9, &conversation.quadruple.sport().to_be_bytes());
     put(image, 11, &conversation.quadruple.dport().to_be_bytes());
     put(image, 13, &conversation.age.to_be_bytes());
+}
+
+/// The bytes of the other kind are ignored: noise, or for an IPv6 address its low bits.
+fn write_addresses(addresses: Addresses, image: &mut [u8], random: &mut Random) {
+    match addresses {
+        Addresses::V4 { source, destination } => {
+            image[17] = 0;
+            put(image, 1, &source.to_be_bytes());
+            put(image, 5, &destination.to_be_bytes());
+        }
+        Addresses::V6 { source, destination } => {
+            image[17] = other_than(random, 0);
+            put(image, 18, &source);
+            put(image, 34, &destination);
+            if random.chance(50) {
+                put(image, 1, &source[12..]);
+                put(image, 5, &destination[12..]);
+            }
+        }
+    }
 }

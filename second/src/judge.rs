@@ -121,7 +121,7 @@ fn track(rule: &Rule, records: &mut Records, place: usize, layers: &Layers) -> V
     let Some(segment) = segment(tcp.flags) else {
         return Verdict::WrongFlags;
     };
-    let quadruple = Quadruple::new(ip.source, ip.destination, tcp.sport, tcp.dport);
+    let quadruple = Quadruple::new(ip.addresses(), tcp.sport, tcp.dport);
     match records.find(place, quadruple) {
         None => begin(rule, records, place, quadruple, segment),
         Some(slot) => proceed(records, place, slot, segment),

@@ -6,9 +6,12 @@ mod event;
 mod faults;
 mod gen;
 mod image;
+#[cfg(test)]
+mod ipv6;
 mod judge;
 mod layers;
 mod matching;
+mod modem;
 #[cfg(test)]
 mod naming;
 mod pace;
@@ -85,9 +88,9 @@ fn pace(scene: &pace::Scene, times: u32, step: u32) -> io::Result<ExitCode> {
 
 fn usage() -> ExitCode {
     eprintln!("second run < stream > lines\nsecond recording < capture > stream\nsecond gen SEED N > stream");
+    eprintln!("second pace SCENE TIMES STEP > stream, SCENE one of worked, last, none, held, six, chain,");
     eprintln!(
-        "second pace SCENE TIMES STEP > stream, SCENE one of worked, last, none, held, grow RULES HELD LENGTH, or"
+        "  grow RULES HELD LENGTH, or check NAME, NAME one of worked, ports, tracked, empty, full, ipv6, nothing"
     );
-    eprintln!("  check NAME, NAME one of worked, ports, tracked, empty, full, nothing");
     ExitCode::from(2)
 }

@@ -1,6 +1,6 @@
 //! Which rule decides a frame, and which fits best where none does.
 
-use crate::layers::{Kind, Layers};
+use crate::layers::{Ip, Ipv4, Ipv6, Kind, Layers};
 use crate::table::{set, Rule, Table};
 
 /// How many layers match from link upward to the first that does not.
@@ -32,7 +32,7 @@ pub fn decider(table: &Table, state: u32, layers: &Layers) -> Decider {
 }
 
 #[inline]
-fn matching_layers(rule: &Rule, layers: &Layers) -> u8 {
+pub fn matching_layers(rule: &Rule, layers: &Layers) -> u8 {
     if rule.has(set::LINK) && !link_matches(rule, layers) {
         0
     } else if rule.has(set::IP) && !ip_matches(rule, layers) {
@@ -63,10 +63,26 @@ fn link_matches(rule: &Rule, layers: &Layers) -> bool {
 
 #[inline]
 fn ip_matches(rule: &Rule, layers: &Layers) -> bool {
-    let Some(ip) = &layers.ip else { return false };
+    match &layers.ip {
+        Some(Ip::V4(ip)) => !rule.has(set::IPV6) && ipv4_agrees(rule, ip),
+        Some(Ip::V6(ip)) => !rule.has(set::IPV4) && ipv6_agrees(rule, ip),
+        None => false,
+    }
+}
+
+#[inline]
+fn ipv4_agrees(rule: &Rule, ip: &Ipv4) -> bool {
     (!rule.has(set::SOURCE) || rule.source.holds(ip.source))
         && (!rule.has(set::DESTINATION) || rule.destination.holds(ip.destination))
         && (!rule.has(set::PROTOCOL) || rule.protocol == ip.protocol)
+}
+
+/// The protocol is the number after the chain, so where the chain fails its setting agrees with nothing.
+#[inline]
+fn ipv6_agrees(rule: &Rule, ip: &Ipv6) -> bool {
+    (!rule.has(set::SOURCE6) || rule.source6.holds(ip.source))
+        && (!rule.has(set::DESTINATION6) || rule.destination6.holds(ip.destination))
+        && (!rule.has(set::PROTOCOL6) || ip.payload.is_some_and(|payload| rule.protocol6 == payload.protocol))
 }
 
 #[inline]
@@ -91,6 +107,7 @@ fn someip_matches(rule: &Rule, layers: &Layers) -> bool {
 pub fn mismatch_event(rule: &Rule, count: u8) -> u16 {
     match count {
         0 => crate::event::LINK_MISMATCH,
+        1 if rule.has(set::IPV6) => crate::event::IPV6_MISMATCH,
         1 => crate::event::IPV4_MISMATCH,
         2 if rule.kind == Kind::Tcp => crate::event::TCP_MISMATCH,
         2 => crate::event::UDP_MISMATCH,

@@ -1,4 +1,4 @@
-//! Tests of what a refused table names, each rule of 02's request 1/12 by itself.
+//! Tests of what a refused table names, each rule of 02's requests 1/12 and 2/12 by itself.
 
 use crate::answer::Refusal;
 use crate::layers::Kind;
@@ -51,6 +51,9 @@ fn a_value_outside_its_range_names_its_setting() {
     assert_eq!(named(set::PRIORITY, |rule| rule.priority = 8), 4);
     assert_eq!(named(set::SOURCE, |rule| rule.source.length = 33), 6);
     assert_eq!(named(set::DESTINATION, |rule| rule.destination.length = 33), 7);
+    assert_eq!(named(set::SOURCE6, |rule| rule.source6.length = 129), 21);
+    assert_eq!(named(set::DESTINATION6, |rule| rule.destination6.length = 129), 22);
+    assert_eq!(named(set::IPV6, |rule| rule.destination6.length = 255), 22);
     assert_eq!(named(set::KIND | set::PORTS, |rule| rule.sports = TURNED), 10);
     assert_eq!(named(set::KIND | set::PORTS, |rule| rule.dports = TURNED), 11);
     assert_eq!(named(set::KIND | set::PORTS, |rule| (rule.sports, rule.dports) = (TURNED, TURNED)), 10);
@@ -65,10 +68,12 @@ fn a_value_outside_its_range_names_its_setting() {
 fn what_is_not_set_is_not_at_fault() {
     let all_bad = |rule: &mut Rule| {
         (rule.vlan, rule.priority, rule.source.length, rule.destination.length) = (4_095, 8, 33, 33);
+        (rule.source6.length, rule.destination6.length) = (129, 129);
         (rule.sports, rule.dports, rule.places, rule.idle) = (TURNED, TURNED, 0, 0);
     };
     assert!(good(0, all_bad));
     assert!(good(set::KIND | set::SOMEIP | set::RATE | set::ETHER | set::PROTOCOL, all_bad));
+    assert!(good(set::PROTOCOL6, all_bad));
     assert!(good(TRACKED, |_| {}));
 }
 
@@ -107,18 +112,48 @@ fn misplaced_tracking_names_its_first_set_half() {
     assert_eq!(named(TRACKED, |rule| (rule.kind, rule.idle) = (Kind::Udp, 0)), 19);
 }
 
+#[test]
+fn both_kinds_of_ip_name_the_first_setting_of_ipv6() {
+    for ipv4 in [set::SOURCE, set::DESTINATION, set::PROTOCOL, set::IPV4] {
+        assert_eq!(named(ipv4 | set::SOURCE6, |_| {}), 21);
+        assert_eq!(named(ipv4 | set::DESTINATION6, |_| {}), 22);
+        assert_eq!(named(ipv4 | set::PROTOCOL6, |_| {}), 23);
+        assert_eq!(named(ipv4 | set::DESTINATION6 | set::PROTOCOL6, |_| {}), 22);
+        assert_eq!(named(ipv4 | set::SOURCE6 | set::PROTOCOL6, |_| {}), 21);
+        assert_eq!(named(ipv4 | set::IPV6, |rule| rule.destination6.length = 129), 21);
+    }
+    // What is wrong with IPv4 comes before, and a transport comes after.
+    assert_eq!(named(set::IPV4 | set::IPV6, |rule| rule.destination.length = 33), 7);
+    assert_eq!(named(set::PROTOCOL | set::PROTOCOL6 | set::PORTS, |_| {}), 23);
+    assert!(good(set::IPV6, |_| {}));
+}
+
+#[test]
+fn prefixes_of_every_length_to_128_are_good() {
+    for length in 0..=128 {
+        let mut table = table(set::SOURCE6 | set::DESTINATION6, |_| {});
+        (table.rules[2].source6.length, table.rules[2].destination6.length) = (length, 128 - length);
+        assert!(table.check().is_ok());
+    }
+}
+
 /// All at fault at once, and one after the other unset.
 #[test]
 fn settings_go_by_the_order_of_01() {
     let spoil = |rule: &mut Rule| {
         (rule.vlan, rule.priority, rule.source.length, rule.destination.length) = (4_095, 8, 33, 33);
+        (rule.source6.length, rule.destination6.length) = (129, 129);
     };
-    let mut left = set::TAG | set::SOURCE | set::DESTINATION | set::PORTS | set::SIZE | set::PLACES;
+    let mut left = set::TAG | set::IPV4 | set::IPV6 | set::PORTS | set::SIZE | set::PLACES;
     for (number, setting) in [
         (3, set::VLAN),
         (4, set::PRIORITY),
         (6, set::SOURCE),
         (7, set::DESTINATION),
+        (21, set::SOURCE6),
+        (22, set::DESTINATION6),
+        // The protocol of IPv4 is still set.
+        (23, set::PROTOCOL6),
         (10, set::SOURCE_PORTS),
         (11, set::DEST_PORTS),
         (17, set::SIZE),

@@ -3,12 +3,12 @@
 
 use std::io::{self, Write};
 
-use crate::draft::{Damage, Draft};
+use crate::draft::{Damage, Draft, Extension, Packet};
 use crate::image::{read_table, write_records, write_table, TABLE_IMAGE};
-use crate::layers::{Kind, ACK, ETHER_IPV4, PROTOCOL_TCP};
+use crate::layers::{Addresses, Kind, ACK, DEST_OPTIONS, ETHER_IPV4, ETHER_IPV6, LONGEST_CHAIN, PROTOCOL_TCP};
 use crate::random::Random;
 use crate::records::{Conversation, Quadruple, Records, RUNNING};
-use crate::table::{set, Action, Prefix, Range, Rule, State, Table, LONGEST_IDLE, PLACES, RULES};
+use crate::table::{set, Action, Prefix, Prefix6, Range, Rule, State, Table, LONGEST_IDLE, PLACES, RULES};
 use crate::table_t::{arp, frame_a, table_t};
 
 /// The reading of the records and of the first frame.
@@ -20,6 +20,9 @@ const HEADERS: usize = 54;
 const LONGEST: usize = 1_518;
 const SOURCE: u32 = 0x0a00_0001;
 const DESTINATION: u32 = 0x0a01_0001;
+const NETWORK6: u128 = 0x2001_0db8_0000_0001 << 64;
+const SOURCE6: u128 = NETWORK6 + 1;
+const DESTINATION6: u128 = NETWORK6 + 0x0001_0001;
 const HTTPS: u16 = 443;
 /// The rule at a place of the larger tables is for the ports from here on.
 const FIRST_PORT: u16 = 10_000;
@@ -40,6 +43,8 @@ pub fn scene(words: &[&str]) -> Option<Scene> {
         ["last"] => Some(ports(first_port(RULES - 1))),
         ["none"] => Some(ports(PORT_OF_NO_RULE)),
         ["held"] => Some(held()),
+        ["six"] => Some(six(0)),
+        ["chain"] => Some(six(LONGEST_CHAIN)),
         ["check", name] => checked(name),
         ["grow", rules, held, length] => grow(rules.parse().ok()?, held.parse().ok()?, length.parse().ok()?),
         _ => None,
@@ -99,6 +104,7 @@ fn checked(name: &str) -> Option<Scene> {
         "tracked" => table(RULES, Action::Block, tracked_rule),
         "empty" => table(RULES, Action::Block, |place| allow(place, 0)),
         "full" => table(RULES, Action::Block, full_rule),
+        "ipv6" => table(RULES, Action::Block, full_rule6),
         _ => return None,
     };
     table.state_count = 0;
@@ -127,8 +133,21 @@ fn ports(port: u16) -> Scene {
 fn held() -> Scene {
     let table = table(RULES, Action::Block, tracked_rule);
     let mut draft = draft(Kind::Tcp, HTTPS, first_port(RULES - 1), 10);
-    draft.source = quadruple(RULES - 1, PLACES - 1).source;
+    draft.source = SOURCE + PLACES as u32 - 1;
     Scene::Judged { table, records: running(RULES, PLACES), frames: vec![draft.bytes(&mut Random::new(0))] }
+}
+
+/// Tracked rules of IPv6, a conversation of the last one held, and a segment of it behind a chain of so many headers.
+fn six(headers: usize) -> Scene {
+    let table = table(RULES, Action::Block, tracked_rule6);
+    let mut draft = draft(Kind::Tcp, HTTPS, first_port(RULES - 1), 10);
+    draft.carry(Packet::V6);
+    draft.chain = vec![Extension { number: DEST_OPTIONS, units: 0 }; headers];
+    let mut records = Records::empty(START);
+    let quadruple = Quadruple::new(draft.addresses(), draft.sport, draft.dport);
+    records.held[RULES - 1][0] = RUNNING;
+    records.conversations[RULES - 1][0] = Conversation { quadruple, age: 0 };
+    Scene::Judged { table, records, frames: vec![draft.bytes(&mut Random::new(0))] }
 }
 
 /// So many tracked rules, so many places of each held, and a frame of that length that no rule matches and the default allows.
@@ -182,11 +201,21 @@ fn tracked_rule(place: usize) -> Rule {
     }
 }
 
-/// Every setting but those of SOME/IP, which a rule of kind TCP has no use for.
+fn tracked_rule6(place: usize) -> Rule {
+    let tracked = tracked_rule(place);
+    Rule {
+        set: set::ETHER | set::SOURCE6 | tracked.set,
+        ether: ETHER_IPV6,
+        source6: Prefix6 { address: NETWORK6, length: 64 },
+        ..tracked
+    }
+}
+
+/// Every setting but those of IPv6, which it cannot have too, and of SOME/IP, which a rule of kind TCP has no use for.
 fn full_rule(place: usize) -> Rule {
     let tracked = tracked_rule(place);
     Rule {
-        set: set::LINK | set::IP | set::RATE | tracked.set,
+        set: set::LINK | set::IPV4 | set::RATE | tracked.set,
         dst: 0x021b_bbbb_bbbb,
         src: 0x021a_aaaa_aaaa,
         vlan: 100,
@@ -201,8 +230,22 @@ fn full_rule(place: usize) -> Rule {
     }
 }
 
+/// The same with the settings of IPv6.
+fn full_rule6(place: usize) -> Rule {
+    let full = full_rule(place);
+    Rule {
+        set: full.set & !set::IPV4 | set::IPV6,
+        ether: ETHER_IPV6,
+        source6: Prefix6 { address: NETWORK6, length: 64 },
+        destination6: Prefix6 { address: DESTINATION6, length: 128 },
+        protocol6: PROTOCOL_TCP,
+        ..full
+    }
+}
+
 fn quadruple(place: usize, slot: usize) -> Quadruple {
-    Quadruple::new(SOURCE + slot as u32, DESTINATION, HTTPS, first_port(place))
+    let addresses = Addresses::V4 { source: SOURCE + slot as u32, destination: DESTINATION };
+    Quadruple::new(addresses, HTTPS, first_port(place))
 }
 
 /// The first places of the first rules are held, all Running.
@@ -227,11 +270,14 @@ fn draft(kind: Kind, sport: u16, dport: u16, payload: usize) -> Draft {
         src: 0x021a_aaaa_aaaa,
         tags: vec![],
         ether: ETHER_IPV4,
-        ip: true,
+        packet: Packet::V4,
         source: SOURCE,
         destination: DESTINATION,
+        source6: SOURCE6,
+        destination6: DESTINATION6,
         protocol: None,
         ip_options: 0,
+        chain: vec![],
         kind,
         sport,
         dport,
@@ -245,16 +291,31 @@ fn draft(kind: Kind, sport: u16, dport: u16, payload: usize) -> Draft {
 
 #[cfg(test)]
 mod tests {
-    use super::{checked, Scene};
-    use crate::answer::Refusal;
+    use super::{checked, scene, Scene, RULES, START};
+    use crate::answer::{Refusal, Verdict};
+    use crate::judge::judge;
+    use crate::layers::{self, Ip};
 
     #[test]
     fn a_checked_table_lacks_nothing_but_a_vehicle_state() {
-        for name in ["worked", "ports", "tracked", "empty", "full"] {
+        for name in ["worked", "ports", "tracked", "empty", "full", "ipv6"] {
             let Some(Scene::Checked(mut table)) = checked(name) else { panic!("no table {name}") };
             assert_eq!(table.check(), Err(Refusal::NO_RULE_AT_FAULT), "{name}");
             table.state_count = 1;
             assert_eq!(table.check(), Ok(()), "{name}");
+        }
+    }
+    #[test]
+    fn a_segment_over_ipv6_passes_under_the_last_rule() {
+        for (name, chain) in [("six", 0), ("chain", 64)] {
+            let Some(Scene::Judged { table, mut records, frames }) = scene(&[name]) else { panic!("no scene {name}") };
+            let read = layers::read(&frames[0]).expect("layers");
+            assert!(matches!(read.ip, Some(Ip::V6(_))));
+            assert_eq!(read.transport.map(|tcp| tcp.start), Some(54 + chain), "{name}");
+            let before = records.held;
+            let answer = judge(&table, &mut records, &frames[0], START, &mut [0; 256]).expect("judged");
+            assert_eq!((answer.verdict, answer.rule), (Verdict::Passed, RULES as u16), "{name}");
+            assert_eq!(records.held, before, "{name}");
         }
     }
 }

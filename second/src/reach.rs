@@ -1,18 +1,22 @@
 //! What a generated stream has reached, by name and how often.
 
+mod ipv6;
+
 use std::collections::BTreeMap;
 
 use crate::answer::{Answer, Refusal, Verdict, NO_RULE};
 use crate::faults::{BadTable, RECORD_FAULTS};
-use crate::layers::{self, be16, be32, Kind, Layers, ACK, ETHER_IPV4, ETHER_TAG, FIN, RST, SYN};
+use crate::layers::{self, be16, be32, Ip, Kind, Layers, ACK, ETHER_IPV4, ETHER_IPV6, ETHER_TAG, FIN, RST, SYN};
+use crate::modem::Wish;
 use crate::records::{Quadruple, Records, FREE, HIGHEST_LEVEL};
 use crate::setting;
 use crate::table::{set, Table, CAN_BE_AT_FAULT, PLACES, RULES};
 
 pub const HELD_NAMES: [&str; 4] = ["none", "opening", "running", "closing"];
 
-const NAMES: [&str; 65] = [
+const NAMES: [&str; 66] = [
     "event-51",
+    "event-52",
     "event-54",
     "event-55",
     "event-56",
@@ -130,6 +134,7 @@ impl Reach {
         names.extend([setting::ID, setting::NONE].iter().chain(&CAN_BE_AT_FAULT).map(|number| setting_name(*number)));
         names.extend(BadTable::all().into_iter().map(BadTable::name));
         names.extend(RECORD_FAULTS.map(|fault| format!("record-fault-{fault}")));
+        names.extend(Wish::all().into_iter().map(Wish::name));
         names.extend((0..4).flat_map(|held| flag_sets().map(move |flags| flags_name(held, flags))));
         Reach(names.into_iter().map(|name| (name, 0)).collect())
     }
@@ -179,6 +184,7 @@ impl Reach {
         let layers = layers::read(call.frame).expect("a judged frame has layers");
         self.layers(call.frame, &layers);
         self.table(call, answer);
+        self.ipv6(call, answer, &layers);
         self.clock(call);
         self.records(call, answer, &layers);
     }
@@ -249,7 +255,7 @@ impl Reach {
             return;
         }
         let (Some(ip), Some(tcp)) = (layers.ip, layers.transport) else { return };
-        let quadruple = Quadruple::new(ip.source, ip.destination, tcp.sport, tcp.dport);
+        let quadruple = Quadruple::new(ip.addresses(), tcp.sport, tcp.dport);
         let held = aged.find(place, quadruple).map_or(FREE, |slot| aged.held[place][slot]);
         self.hit(&flags_name(held, tcp.flags & (FIN | SYN | RST | ACK)));
     }

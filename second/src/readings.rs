@@ -2,6 +2,7 @@
 
 use crate::faults::BadTable;
 use crate::gen::generate;
+use crate::layers::Addresses;
 use crate::random::Random;
 use crate::records::{Records, CLOSING};
 use crate::stream::run;
@@ -58,13 +59,16 @@ fn each_bad_table_is_refused_at_its_place_and_setting() {
     }
 }
 
-/// Eleven settings and none: any two can be at fault together, save the halves of the rate.
+/// Fourteen settings and none: any two can be at fault together, save the halves of the rate and the protocol of IPv6 with what comes
+/// before it in IPv6, since both kinds of IP are named at the first.
 #[test]
 fn every_two_settings_that_can_be_at_fault_are() {
     let two = |bad: &&BadTable| matches!(bad, BadTable::Settings(..));
     let names: Vec<String> = BadTable::all().iter().filter(two).map(|bad| bad.name()).collect();
-    assert_eq!(names.len(), 12 * 11 / 2 - 1);
-    assert!(!names.contains(&"two-faults-17-18".to_string()));
+    assert_eq!(names.len(), 15 * 14 / 2 - 3);
+    for never in ["two-faults-17-18", "two-faults-21-23", "two-faults-22-23"] {
+        assert!(!names.contains(&never.to_string()));
+    }
 }
 
 #[test]
@@ -87,6 +91,8 @@ fn what_no_fresh_record_has_is_a_bad_record() {
     assert!(!bad(|_| {}));
     assert!(bad(|records| records.conversations[1][1].age = 1), "a free place of a rule that tracks");
     assert!(bad(|records| records.conversations[0][7].quadruple.ports = 1), "a place of a rule that does not");
-    assert!(bad(|records| records.conversations[63][0].quadruple.source = 1), "a place without a rule");
+    assert!(bad(|records| records.conversations[63][0].quadruple.ports = 1), "a place without a rule");
+    let six = |records: &mut Records| records.conversations[1][0].quadruple.addresses = Addresses::v6(0, 0);
+    assert!(bad(six), "a free place of another kind");
     assert!(bad(|records| records.held[1][0] = CLOSING + 1), "a state that there is not");
 }

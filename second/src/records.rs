@@ -1,6 +1,7 @@
 //! The records: what makes them bad, fresh records, the switch of vehicle state, and step 2.
 
 use crate::answer::Refusal;
+use crate::layers::Addresses;
 use crate::table::{set, Rule, Table, PLACES, RULES};
 
 pub const HIGHEST_LEVEL: u32 = 4_294_967_000;
@@ -11,18 +12,25 @@ pub const OPENING: u8 = 1;
 pub const RUNNING: u8 = 2;
 pub const CLOSING: u8 = 3;
 
-#[derive(Clone, Copy, PartialEq, Eq, Debug, Default)]
+/// Equal where the kind of the addresses and all their bits are, and the ports.
+#[derive(Clone, Copy, PartialEq, Eq, Debug)]
 pub struct Quadruple {
-    pub source: u32,
-    pub destination: u32,
+    pub addresses: Addresses,
     /// The source port above, the destination port below.
     pub ports: u32,
 }
 
+impl Default for Quadruple {
+    /// What a place holds in a fresh record.
+    fn default() -> Quadruple {
+        Quadruple { addresses: Addresses::V4 { source: 0, destination: 0 }, ports: 0 }
+    }
+}
+
 impl Quadruple {
     #[inline]
-    pub fn new(source: u32, destination: u32, sport: u16, dport: u16) -> Quadruple {
-        Quadruple { source, destination, ports: u32::from(sport) << 16 | u32::from(dport) }
+    pub fn new(addresses: Addresses, sport: u16, dport: u16) -> Quadruple {
+        Quadruple { addresses, ports: u32::from(sport) << 16 | u32::from(dport) }
     }
 
     pub fn sport(self) -> u16 {
@@ -36,7 +44,11 @@ impl Quadruple {
     /// A short mark: equal quadruples have the same, different ones hardly ever.
     #[inline]
     fn mark(self) -> u32 {
-        (self.source.rotate_left(16) ^ self.ports).wrapping_mul(0x9e37_79b9) ^ self.destination
+        let (source, destination) = match self.addresses {
+            Addresses::V4 { source, destination } => (source, destination),
+            Addresses::V6 { source, destination } => (folded(source), folded(destination)),
+        };
+        (source.rotate_left(16) ^ self.ports).wrapping_mul(0x9e37_79b9) ^ destination
     }
 }
 
@@ -47,12 +59,21 @@ pub struct Conversation {
 }
 
 impl Conversation {
-    /// Zero exactly where every field is.
+    /// Whether it is what a place holds in a fresh record.
     #[inline]
-    fn filled(&self) -> u32 {
-        let Quadruple { source, destination, ports } = self.quadruple;
-        source | destination | ports | self.age
+    fn is_fresh(&self) -> bool {
+        let Quadruple { addresses, ports } = self.quadruple;
+        let Addresses::V4 { source, destination } = addresses else { return false };
+        source | destination | ports | self.age == 0
     }
+}
+
+/// The bits of an IPv6 address drawn together in 32.
+#[inline]
+fn folded(address: [u8; 16]) -> u32 {
+    let bits = u128::from_ne_bytes(address);
+    let half = (bits >> 64) as u64 ^ (bits as u64).rotate_left(23);
+    (half >> 32) as u32 ^ half as u32
 }
 
 #[derive(Clone, Copy, PartialEq, Eq, Debug, Default)]
@@ -113,14 +134,13 @@ impl Records {
         }
     }
 
-    /// Where no rule stands there is no level and no conversation. All is looked at at once, which is faster than to stop early.
+    /// Where no rule stands there is no level and no conversation. All levels are looked at at once, and all states of places, which is
+    /// faster than to stop early.
     #[inline]
     fn empty_from(&self, count: usize) -> bool {
         let levels = self.levels[count..].iter().fold(0, |any, level| any | level);
         let held = self.held[count..].iter().fold(0, |any, held| any | u64::from_ne_bytes(*held));
-        levels == 0
-            && held == 0
-            && (!WORDS || self.conversations[count..].iter().fold(0, |any, row| any | filled(row)) == 0)
+        levels == 0 && held == 0 && (!WORDS || self.conversations[count..].iter().all(all_fresh))
     }
 
     #[inline]
@@ -130,7 +150,7 @@ impl Records {
             return false;
         }
         if self.held[place] == [FREE; PLACES] {
-            return !WORDS || filled(&self.conversations[place]) == 0;
+            return !WORDS || all_fresh(&self.conversations[place]);
         }
         self.good_conversations(place, rule)
     }
@@ -142,17 +162,19 @@ impl Records {
             return false;
         }
         let mut marks = [0; PLACES];
-        // what a free place still holds, and a state that there is not
-        let mut left = 0;
+        // a state that there is not
         let mut bad = WORDS && u64::from_ne_bytes(self.held[place]) & u64::from_ne_bytes([!CLOSING; PLACES]) != 0;
         for slot in 0..PLACES {
             let conversation = &self.conversations[place][slot];
-            let held = self.held[place][slot] != FREE;
-            bad |= held & ((slot >= usize::from(rule.places)) | (conversation.age >= rule.idle));
-            left |= if held { 0 } else { conversation.filled() };
-            marks[slot] = if held { conversation.quadruple.mark() } else { slot as u32 };
+            if self.held[place][slot] != FREE {
+                bad |= (slot >= usize::from(rule.places)) | (conversation.age >= rule.idle);
+                marks[slot] = conversation.quadruple.mark();
+            } else {
+                bad |= WORDS && !conversation.is_fresh();
+                marks[slot] = slot as u32;
+            }
         }
-        !bad && (!WORDS || left == 0) && !(any_alike(&marks) && self.repeats(place))
+        !bad && !(any_alike(&marks) && self.repeats(place))
     }
 
     /// The exact look, needed only where two marks are alike.
@@ -226,11 +248,9 @@ impl Records {
     }
 }
 
-/// Zero exactly where all eight places are as in a fresh record. Four rows of lanes, so that one OR need not wait for the one before.
 #[inline]
-fn filled(row: &[Conversation; PLACES]) -> u32 {
-    let [a, b, c, d, e, f, g, h] = row.each_ref().map(Conversation::filled);
-    ((a | b) | (c | d)) | ((e | f) | (g | h))
+fn all_fresh(row: &[Conversation; PLACES]) -> bool {
+    row.iter().all(Conversation::is_fresh)
 }
 
 /// Every two of the eight stand at most four apart, going round.

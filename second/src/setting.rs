@@ -21,12 +21,15 @@ pub const SIZE: u8 = 17;
 pub const REFILL: u8 = 18;
 pub const PLACES: u8 = 19;
 pub const IDLE: u8 = 20;
+pub const SOURCE6: u8 = 21;
+pub const DESTINATION6: u8 = 22;
+pub const PROTOCOL6: u8 = 23;
 pub const ACTION: u8 = 28;
 /// The rule count or the states are at fault, and no setting of a rule.
 pub const NONE: u8 = 255;
 
 const LINK: [u8; 5] = [DEST_MAC, SOURCE_MAC, VLAN, PRIORITY, ETHER];
-const IP: [u8; 3] = [SOURCE, DESTINATION, PROTOCOL];
+const IP: [u8; 6] = [SOURCE, DESTINATION, PROTOCOL, SOURCE6, DESTINATION6, PROTOCOL6];
 const TRANSPORT: [u8; 3] = [KIND, SOURCE_PORTS, DEST_PORTS];
 const SOMEIP: [u8; 5] = [SERVICE, METHOD, VERSION, MESSAGE, CODE];
 

@@ -5,7 +5,7 @@ use std::io::{self, Read, Write};
 use crate::answer::{Answer, Refusal};
 use crate::image::{self, RECORD_IMAGE, TABLE_IMAGE};
 use crate::judge::judge;
-use crate::layers::{self, be16, Kind, Layers, ACK, FIN, RST, SYN};
+use crate::layers::{self, be16, be64, Addresses, Ip, Kind, Layers, ACK, FIN, RST, SYN};
 use crate::records::{self, Conversation, Records, FREE};
 use crate::table::{Table, PLACES, RULES};
 
@@ -124,7 +124,7 @@ impl Run {
 
     fn take_judging(&mut self, input: &mut impl Read) -> Result<Judging, Stop> {
         let head: [u8; 12] = take(input)?;
-        let (reading, size) = (image::be64(&head, 0), usize::from(be16(&head, 8)));
+        let (reading, size) = (be64(&head, 0), usize::from(be16(&head, 8)));
         let length = usize::from(be16(&head, 10));
         if size > LARGEST_SPACE {
             return Err(Stop::BadStream);
@@ -207,7 +207,14 @@ fn print_layers(output: &mut impl Write, read: Result<Layers, Refusal>) -> io::R
     }
     write!(output, " {} ", layers.ether)?;
     match layers.ip {
-        Some(ip) => write!(output, "{},{},{},{} ", ip.source, ip.destination, ip.protocol, ip.header)?,
+        Some(Ip::V4(ip)) => write!(output, "{},{},{},{} ", ip.source, ip.destination, ip.protocol, ip.header)?,
+        Some(Ip::V6(ip)) => {
+            write!(output, "6,{:032x},{:032x},", ip.source, ip.destination)?;
+            match ip.payload {
+                Some(payload) => write!(output, "{} ", payload.protocol)?,
+                None => write!(output, "- ")?,
+            }
+        }
         None => write!(output, "- ")?,
     }
     match layers.transport {
@@ -246,7 +253,14 @@ fn print_conversations(output: &mut impl Write, records: &Records, place: usize)
             continue;
         }
         let Conversation { quadruple: of, age } = records.conversations[place][slot];
-        write!(output, "c {place} {slot} {} {} ", of.source, of.destination)?;
+        write!(output, "c {place} {slot} ")?;
+        match of.addresses {
+            Addresses::V4 { source, destination } => write!(output, "{source} {destination} ")?,
+            Addresses::V6 { source, destination } => {
+                let [source, destination] = [source, destination].map(u128::from_be_bytes);
+                write!(output, "{source:032x} {destination:032x} ")?;
+            }
+        }
         writeln!(output, "{} {} {held} {age}", of.sport(), of.dport())?;
     }
     Ok(())

@@ -31,10 +31,15 @@ pub mod set {
     pub const REFILL: u32 = 1 << 17;
     pub const PLACES: u32 = 1 << 18;
     pub const IDLE: u32 = 1 << 19;
+    pub const SOURCE6: u32 = 1 << 20;
+    pub const DESTINATION6: u32 = 1 << 21;
+    pub const PROTOCOL6: u32 = 1 << 22;
 
     pub const TAG: u32 = VLAN | PRIORITY;
     pub const LINK: u32 = DEST_MAC | SOURCE_MAC | TAG | ETHER;
-    pub const IP: u32 = SOURCE | DESTINATION | PROTOCOL;
+    pub const IPV4: u32 = SOURCE | DESTINATION | PROTOCOL;
+    pub const IPV6: u32 = SOURCE6 | DESTINATION6 | PROTOCOL6;
+    pub const IP: u32 = IPV4 | IPV6;
     pub const PORTS: u32 = SOURCE_PORTS | DEST_PORTS;
     pub const TRANSPORT: u32 = KIND | PORTS;
     pub const SOMEIP: u32 = SERVICE | METHOD | VERSION | MESSAGE | CODE;
@@ -60,6 +65,19 @@ impl Prefix {
     pub fn holds(self, address: u32) -> bool {
         let differing = u64::from(self.address ^ address);
         differing >> (32 - u32::from(self.length)) == 0
+    }
+}
+
+#[derive(Clone, Copy, Debug)]
+pub struct Prefix6 {
+    pub address: u128,
+    pub length: u8,
+}
+
+impl Prefix6 {
+    #[inline]
+    pub fn holds(self, address: u128) -> bool {
+        (self.address ^ address).leading_zeros() >= u32::from(self.length)
     }
 }
 
@@ -97,6 +115,9 @@ pub struct Rule {
     pub protocol: u8,
     pub source: Prefix,
     pub destination: Prefix,
+    pub source6: Prefix6,
+    pub destination6: Prefix6,
+    pub protocol6: u8,
     pub sports: Range,
     pub dports: Range,
     pub service: u16,
@@ -117,17 +138,22 @@ impl Rule {
     }
 
     /// Which of `CAN_BE_AT_FAULT` are, as 02 names a fault: half a pair by its set half, ports without a kind by their first
-    /// range, misplaced tracking by its first set half. No test is skipped for another: that is faster than to branch.
-    #[inline]
+    /// range, misplaced tracking by its first set half. But for the settings of IPv6, which few rules have, no test is skipped for
+    /// another: that is faster than to branch.
+    #[inline(always)]
     fn faults(&self) -> [bool; CAN_BE_AT_FAULT.len()] {
         let (kind, tcp) = (self.has(set::KIND), self.kind == Kind::Tcp);
         let misplaced = (self.action == Action::Block) | !kind | !tcp;
         let (places, idle) = (self.has(set::PLACES), self.has(set::IDLE));
+        let [source6, destination6, protocol6] = if self.has(set::IPV6) { self.faults_of_ipv6() } else { [false; 3] };
         [
             self.has(set::VLAN) & (self.vlan > 4_094),
             self.has(set::PRIORITY) & (self.priority > 7),
             self.has(set::SOURCE) & (self.source.length > 32),
             self.has(set::DESTINATION) & (self.destination.length > 32),
+            source6,
+            destination6,
+            protocol6,
             self.has(set::SOURCE_PORTS) & (self.sports.turned() | !kind),
             self.has(set::DEST_PORTS) & (self.dports.turned() | !kind),
             self.has(set::SIZE) & !self.has(set::REFILL),
@@ -137,13 +163,25 @@ impl Rule {
         ]
     }
 
+    /// Those of a rule with settings of IPv6; both kinds of IP are named by the first of them.
+    #[inline]
+    fn faults_of_ipv6(&self) -> [bool; 3] {
+        let both = self.has(set::IPV4);
+        let (source, destination) = (self.has(set::SOURCE6), self.has(set::DESTINATION6));
+        [
+            source & (both | (self.source6.length > 128)),
+            destination & ((both & !source) | (self.destination6.length > 128)),
+            both & !source & !destination,
+        ]
+    }
+
     /// Whether anything is wrong with the rule by itself.
     #[inline]
     fn at_fault(&self) -> bool {
         self.faults().into_iter().fold(self.id == NO_RULE, |any, fault| any | fault)
     }
 
-    /// The settings at fault beside the id, in 01's order, as 02 names them: misplaced tracking by its first set half alone.
+    /// The settings at fault beside the id, in 01's order, as 02 names them: misplaced tracking and both kinds of IP by one alone.
     pub fn settings_at_fault(&self) -> impl Iterator<Item = u8> {
         let faults = CAN_BE_AT_FAULT.into_iter().zip(self.faults());
         faults.filter(|(_, at_fault)| *at_fault).map(|(setting, _)| setting)
@@ -151,11 +189,14 @@ impl Rule {
 }
 
 /// The settings beside the id that can be at fault, in 01's order. Every other holds no more than it may.
-pub const CAN_BE_AT_FAULT: [u8; 10] = [
+pub const CAN_BE_AT_FAULT: [u8; 13] = [
     setting::VLAN,
     setting::PRIORITY,
     setting::SOURCE,
     setting::DESTINATION,
+    setting::SOURCE6,
+    setting::DESTINATION6,
+    setting::PROTOCOL6,
     setting::SOURCE_PORTS,
     setting::DEST_PORTS,
     setting::SIZE,

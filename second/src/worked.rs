@@ -2,7 +2,7 @@
 
 use crate::answer::{Refusal, Verdict, NO_RULE};
 use crate::judge::judge;
-use crate::layers::{self, ACK, SYN};
+use crate::layers::{self, Addresses, ACK, SYN};
 use crate::reach::{flag_sets, flags_name};
 use crate::records::{fresh, Conversation, Quadruple, Records, CLOSING, FREE, OPENING, RUNNING};
 use crate::table::Table;
@@ -41,6 +41,8 @@ impl Bench {
         refused.expect_err("refused")
     }
 }
+
+const ADDRESSES: Addresses = Addresses::V4 { source: 0x0a00_0009, destination: 0x0a01_0001 };
 
 /// A TCP frame of 10.0.0.9 to 10.1.0.1 from port 443, with a valid IP checksum.
 fn tcp(dport: u16, flags: u8) -> Vec<u8> {
@@ -134,7 +136,7 @@ const BY_KIND: [(u8, [(u8, u8); 4]); 4] = [
 
 #[test]
 fn each_set_of_flags_in_each_held_state() {
-    let quadruple = Quadruple::new(0x0a00_0009, 0x0a01_0001, 443, 5_000);
+    let quadruple = Quadruple::new(ADDRESSES, 443, 5_000);
     for (held, cells) in BY_KIND {
         for (flags, letter) in flag_sets().zip(FLAG_SETS) {
             let mut bench = Bench::new(0);
@@ -179,8 +181,7 @@ fn m7_places_fill_and_idle_out() {
     assert_eq!(bench.verdict(1_000, &third), Verdict::Passed);
     assert_eq!(bench.records.held[1][..2], [OPENING, FREE]);
     let held = bench.records.conversations[1][0];
-    let of_third = Quadruple::new(0x0a00_0009, 0x0a01_0001, 443, 3);
-    assert_eq!(held.quadruple, of_third);
+    assert_eq!(held.quadruple, Quadruple::new(ADDRESSES, 443, 3));
 }
 
 #[test]

@@ -1,26 +1,47 @@
 //! A small world of stations, ports and services: tables drawn from it, and frames aimed at their rules.
 
-use crate::draft::{Damage, Draft, Message};
+mod aim;
+
+pub use aim::{aim, near_miss};
+
+use crate::draft::{Damage, Draft, Extension, Message, Packet};
 use crate::image::{read_table, TABLE_IMAGE};
-use crate::layers::{Kind, ACK, ETHER_IPV4, SYN};
+use crate::layers::{Kind, ACK, DEST_OPTIONS, ETHER_IPV4, ETHER_IPV6, FRAGMENT, HOP_BY_HOP, ROUTING, SYN};
 use crate::random::Random;
-use crate::table::{set, Action, Prefix, Range, Rule, State, Table, LONGEST_IDLE, RULES, STATES};
+use crate::table::{set, Action, Prefix, Prefix6, Range, Rule, State, Table, LONGEST_IDLE, RULES, STATES};
 
 const MACS: [u64; 5] = [0x021a_aaaa_aaaa, 0x021b_bbbb_bbbb, 0x0200_0000_0003, 0xffff_ffff_ffff, 0x0100_5e00_00fb];
 const ADDRESSES: [u32; 8] =
     [0x0a00_0001, 0x0a00_0002, 0x0a00_0009, 0x0a01_0001, 0x0a01_0102, 0xc0a8_0001, 0xc0a8_01fe, 0xffff_ffff];
+/// Some have the low bits of an IPv4 address, and nothing or little above them.
+const ADDRESSES6: [u128; 9] = [
+    0x2001_0db8_0000_0000_0000_0000_0000_0001,
+    0x2001_0db8_0000_0000_8000_0000_0000_0001,
+    0x2001_0db8_0000_0001_0000_0000_0000_0001,
+    0xfe80_0000_0000_0000_0000_0000_0000_0009,
+    0xfd00_0000_0000_0000_0000_0000_0a01_0001,
+    0x0000_0000_0000_0000_0000_ffff_0a00_0001,
+    0x0a00_0001,
+    0,
+    u128::MAX,
+];
 const PORTS: [u16; 8] = [0, 68, 443, 1_023, 1_024, 30_490, 30_501, 65_535];
 const SERVICES: [u16; 4] = [0x0000, 0x1000, 0x1001, 0xffff];
 const METHODS: [u16; 3] = [0x0111, 0x0112, 0x8001];
 const MESSAGES: [u8; 4] = [0x00, 0x02, 0x80, 0x81];
 const VLANS: [u16; 5] = [0, 1, 5, 100, 4_094];
-const ETHERS: [u16; 6] = [ETHER_IPV4, ETHER_IPV4, 0x0806, 0x86dd, 0x8100, 0x88f7];
+const ETHERS: [u16; 6] = [ETHER_IPV4, ETHER_IPV4, 0x0806, ETHER_IPV6, 0x8100, 0x88f7];
 const IDLES: [u32; 8] = [1, 20, 100, 100, 400, 1_000, 5_000, LONGEST_IDLE];
 const REFILLS: [u16; 7] = [0, 1, 10, 100, 1_000, 1_000, 65_535];
 
 fn prefix(random: &mut Random) -> Prefix {
     let length = random.pick(&[0, 1, 8, 8, 16, 16, 24, 24, 30, 31, 32, 32]);
     Prefix { address: random.pick(&ADDRESSES) ^ random.below(4) as u32, length }
+}
+
+fn prefix6(random: &mut Random) -> Prefix6 {
+    let length = random.pick(&[0, 1, 10, 32, 48, 63, 64, 64, 65, 96, 127, 128, 128]);
+    Prefix6 { address: random.pick(&ADDRESSES6) ^ u128::from(random.below(4)), length }
 }
 
 fn range(random: &mut Random) -> Range {
@@ -33,7 +54,7 @@ fn range(random: &mut Random) -> Range {
 }
 
 /// A rule with every value drawn and nothing set.
-fn blank(random: &mut Random) -> Rule {
+pub fn blank(random: &mut Random) -> Rule {
     Rule {
         id: 0,
         action: Action::Allow,
@@ -46,6 +67,9 @@ fn blank(random: &mut Random) -> Rule {
         source: prefix(random),
         destination: prefix(random),
         protocol: random.pick(&[6, 17, 6, 17, 1, 0, 255]),
+        source6: prefix6(random),
+        destination6: prefix6(random),
+        protocol6: random.pick(&[6, 17, 6, 17, 58, HOP_BY_HOP, ROUTING, FRAGMENT, DEST_OPTIONS, 255]),
         kind: if random.chance(50) { Kind::Tcp } else { Kind::Udp },
         sports: range(random),
         dports: range(random),
@@ -67,30 +91,32 @@ fn some_of(settings: &[u32], percent: u64, random: &mut Random) -> u32 {
 }
 
 const LINKS: [u32; 5] = [set::DEST_MAC, set::SOURCE_MAC, set::VLAN, set::PRIORITY, set::ETHER];
-const IPS: [u32; 3] = [set::SOURCE, set::DESTINATION, set::PROTOCOL];
+const IPV4S: [u32; 3] = [set::SOURCE, set::DESTINATION, set::PROTOCOL];
+const IPV6S: [u32; 3] = [set::SOURCE6, set::DESTINATION6, set::PROTOCOL6];
 const SOMEIPS: [u32; 5] = [set::SERVICE, set::METHOD, set::VERSION, set::MESSAGE, set::CODE];
 const PORT_SETS: [u32; 2] = [set::SOURCE_PORTS, set::DEST_PORTS];
 
 fn draw_rule(random: &mut Random) -> Rule {
     let mut rule = blank(random);
+    let ips = if random.chance(40) { IPV6S } else { IPV4S };
     let form = random.below(100);
     if form < 30 {
         rule.kind = Kind::Tcp;
-        rule.set = set::KIND | set::TRACKING | set::SOURCE_PORTS | some_of(&IPS, 15, random);
+        rule.set = set::KIND | set::TRACKING | set::SOURCE_PORTS | some_of(&ips, 15, random);
         rule.places = random.pick(&[1, 2, 2, 3, 4, 8]);
     } else if form < 50 {
         rule.kind = Kind::Udp;
         rule.set = set::KIND | set::SERVICE | some_of(&SOMEIPS, 30, random) | some_of(&PORT_SETS, 30, random);
     } else if form < 65 {
-        rule.set = set::KIND | some_of(&PORT_SETS, 60, random) | some_of(&IPS[..2], 30, random);
+        rule.set = set::KIND | some_of(&PORT_SETS, 60, random) | some_of(&ips[..2], 30, random);
     } else if form < 80 {
         rule.set = set::ETHER | some_of(&LINKS, 20, random);
-        rule.ether = random.pick(&[0x0806, 0x0806, 0x8100, 0x88f7, ETHER_IPV4]);
+        rule.ether = random.pick(&[0x0806, 0x0806, 0x8100, 0x88f7, ETHER_IPV4, ETHER_IPV6]);
     } else if form < 92 {
-        rule.set = set::SOURCE | some_of(&IPS, 50, random);
+        rule.set = ips[0] | some_of(&ips, 50, random);
     } else {
         rule.set = set::KIND | some_of(&PORT_SETS, 30, random) | some_of(&SOMEIPS, 20, random);
-        rule.set |= some_of(&LINKS, 20, random) | some_of(&IPS, 20, random);
+        rule.set |= some_of(&LINKS, 20, random) | some_of(&ips, 20, random);
     }
     rule.set |= some_of(&LINKS, 5, random);
     if random.chance(if rule.has(set::TRACKING) { 15 } else { 40 }) {
@@ -105,7 +131,7 @@ fn draw_rule(random: &mut Random) -> Rule {
 /// The id of a rule, one to each table, with tracking that goes on undisturbed.
 pub const STEADY: u16 = 443;
 /// How many rules every table has for certain, so that much is reached in a short stream.
-const CERTAIN: usize = 5;
+const CERTAIN: usize = 6;
 
 fn certain_rules(number: u64, random: &mut Random) -> [Rule; CERTAIN] {
     let steady = Rule {
@@ -133,7 +159,12 @@ fn certain_rules(number: u64, random: &mut Random) -> [Rule; CERTAIN] {
     let service = Rule { kind: Kind::Udp, set: set::KIND | set::SERVICE | set::MESSAGE, ..blank(random) };
     let addressed =
         Rule { source: Prefix { address: 0xc0a8_0000, length: 16 }, set: set::SOURCE | set::PROTOCOL, ..blank(random) };
-    [steady, measured, shut, service, addressed]
+    let addressed6 = Rule {
+        source6: Prefix6 { address: ADDRESSES6[0], length: 32 },
+        set: set::SOURCE6 | set::PROTOCOL6,
+        ..blank(random)
+    };
+    [steady, measured, shut, service, addressed, addressed6]
 }
 
 /// A good table. Beyond its rules and states stands what would be faulty if it were looked at.
@@ -156,7 +187,7 @@ pub fn draw_table(number: u64, random: &mut Random) -> Table {
         table.rules[count - 1].set = 0;
     }
     number_rules(&mut table, from, random);
-    table.state_count = random.pick(&[5, 5, 6, 8]);
+    table.state_count = random.pick(&[6, 6, 7, 8]);
     for state in 0..usize::from(table.state_count) {
         table.states[state] = draw_state(state, number, table.rules(), random);
     }
@@ -173,22 +204,24 @@ fn number_rules(table: &mut Table, steady: usize, random: &mut Random) {
     table.rules[steady].id = STEADY;
 }
 
-/// Each of the first states lets another event come: nearly all rules active, none, those that ask for IPv4, for a link, for UDP.
+/// Each of the first states lets another event come: nearly all rules active, none, those that ask for IPv4, for a link, for UDP,
+/// for IPv6.
 fn draw_state(state: usize, number: u64, rules: &[Rule], random: &mut Random) -> State {
     let wanted = |rule: &Rule| match state {
         1 => false,
-        2 => rule.has(set::IP),
+        2 => rule.has(set::IPV4),
         3 => rule.has(set::LINK),
         4 => rule.has(set::KIND) && rule.kind == Kind::Udp,
+        5 => rule.has(set::IPV6),
         _ => true,
     };
     let marks =
         rules.iter().enumerate().filter(|(_, rule)| wanted(rule)).fold(0, |marks, (place, _)| marks | 1 << place);
     let certain = (1 << CERTAIN) - 1;
-    let spared = random.next() & random.next() & if state < 5 { !certain } else { u64::MAX };
+    let spared = random.next() & random.next() & if state < 6 { !certain } else { u64::MAX };
     let allows = match state {
         1 => number % 2 == 0,
-        2..=4 => false,
+        2..=5 => false,
         _ => number > 3 && random.chance(20),
     };
     State { default: if allows { Action::Allow } else { Action::Block }, marks: marks & !spared }
@@ -206,7 +239,17 @@ pub fn draw_table_without_rules(random: &mut Random) -> Table {
 
 /// A frame of this world, aimed at nothing.
 pub fn draw_frame(random: &mut Random) -> Draft {
-    let ether = if random.chance(85) { ETHER_IPV4 } else { random.pick(&ETHERS) };
+    let ether = match random.below(100) {
+        0..=59 => ETHER_IPV4,
+        60..=84 => ETHER_IPV6,
+        _ => random.pick(&ETHERS),
+    };
+    let packet = match ether {
+        ETHER_IPV4 => Packet::V4,
+        ETHER_IPV6 => Packet::V6,
+        _ if random.chance(20) => random.pick(&[Packet::V4, Packet::V6]),
+        _ => Packet::None,
+    };
     let message = Message {
         service: random.pick(&SERVICES),
         method: random.pick(&METHODS),
@@ -219,11 +262,14 @@ pub fn draw_frame(random: &mut Random) -> Draft {
         src: random.pick(&MACS),
         tags: draw_tags(random),
         ether,
-        ip: ether == ETHER_IPV4 || random.chance(20),
+        packet,
         source: random.pick(&ADDRESSES) ^ random.below(2) as u32,
         destination: random.pick(&ADDRESSES) ^ random.below(2) as u32,
-        protocol: if random.chance(3) { Some(random.next() as u8) } else { None },
+        source6: random.pick(&ADDRESSES6) ^ u128::from(random.below(2)),
+        destination6: random.pick(&ADDRESSES6) ^ u128::from(random.below(2)),
+        protocol: if random.chance(10) { Some(random.next() as u8) } else { None },
         ip_options: if random.chance(10) { random.between(1, 10) as usize } else { 0 },
+        chain: if random.chance(40) { draw_chain(random) } else { vec![] },
         kind: if random.chance(40) { Kind::Tcp } else { Kind::Udp },
         sport: random.pick(&PORTS),
         dport: random.pick(&PORTS),
@@ -233,6 +279,18 @@ pub fn draw_frame(random: &mut Random) -> Draft {
         payload: draw_payload(random),
         damage: Damage::None,
     }
+}
+
+/// Mostly short, now and then with a fragment header in it or of about as many headers as are followed.
+fn draw_chain(random: &mut Random) -> Vec<Extension> {
+    let length = random.pick(&[1, 1, 2, 3, 7, 8, 8, 9]);
+    (0..length).map(|_| draw_extension(random)).collect()
+}
+
+fn draw_extension(random: &mut Random) -> Extension {
+    let numbers = [HOP_BY_HOP, ROUTING, DEST_OPTIONS];
+    let number = if random.chance(3) { FRAGMENT } else { random.pick(&numbers) };
+    Extension { number, units: random.pick(&[0, 0, 0, 1, 2]) }
 }
 
 fn draw_payload(random: &mut Random) -> usize {
@@ -251,130 +309,7 @@ fn draw_tags(random: &mut Random) -> Vec<u16> {
     };
     match random.below(100) {
         0..=69 => vec![],
-        70..=95 => vec![tag(random)],
+        70..=91 => vec![tag(random)],
         _ => vec![tag(random), tag(random)],
-    }
-}
-
-fn port_in(range: Range, random: &mut Random) -> u16 {
-    match random.below(3) {
-        0 => range.low,
-        1 => range.high,
-        _ => random.between(range.low.into(), range.high.into()) as u16,
-    }
-}
-
-/// An address that agrees with the prefix, its other bits as they like.
-fn address_in(prefix: Prefix, other: u32) -> u32 {
-    let beyond = (u64::from(u32::MAX) >> prefix.length) as u32;
-    prefix.address & !beyond | other & beyond
-}
-
-/// A frame that this rule matches, if any frame can.
-pub fn aim(rule: &Rule, random: &mut Random) -> Draft {
-    let mut draft = draw_frame(random);
-    aim_link(rule, &mut draft, random);
-    if rule.has(set::IP | set::TRANSPORT | set::SOMEIP) {
-        draft.ip = true;
-        draft.ether = ETHER_IPV4;
-    }
-    if rule.has(set::ETHER) {
-        draft.ether = rule.ether;
-        draft.ip = rule.ether == ETHER_IPV4;
-    }
-    if rule.has(set::SOURCE) {
-        draft.source = address_in(rule.source, draft.source);
-    }
-    if rule.has(set::DESTINATION) {
-        draft.destination = address_in(rule.destination, draft.destination);
-    }
-    if rule.has(set::PROTOCOL) {
-        draft.kind = if rule.protocol == 6 { Kind::Tcp } else { Kind::Udp };
-        draft.protocol = Some(rule.protocol);
-    }
-    aim_transport(rule, &mut draft, random);
-    draft
-}
-
-fn aim_link(rule: &Rule, draft: &mut Draft, random: &mut Random) {
-    if rule.has(set::DEST_MAC) {
-        draft.dst = rule.dst;
-    }
-    if rule.has(set::SOURCE_MAC) {
-        draft.src = rule.src;
-    }
-    if rule.has(set::TAG) {
-        let word = random.next() as u16;
-        let priority = if rule.has(set::PRIORITY) { u16::from(rule.priority) << 13 } else { word & 0xe000 };
-        let vlan = if rule.has(set::VLAN) { rule.vlan } else { word & 0x0fff };
-        draft.tags = vec![priority | word & 0x1000 | vlan];
-    }
-    // A second tag is only an ether type, so it hides the layers above.
-    if rule.has(!set::LINK) {
-        draft.tags.truncate(1);
-    }
-}
-
-fn aim_transport(rule: &Rule, draft: &mut Draft, random: &mut Random) {
-    if rule.has(set::KIND) {
-        draft.kind = rule.kind;
-        draft.protocol = if rule.has(set::PROTOCOL) { draft.protocol } else { None };
-    }
-    if rule.has(set::SOURCE_PORTS) {
-        draft.sport = port_in(rule.sports, random);
-    }
-    if rule.has(set::DEST_PORTS) {
-        draft.dport = port_in(rule.dports, random);
-    }
-    if !rule.has(set::SOMEIP) {
-        return;
-    }
-    if !rule.has(set::KIND) {
-        draft.kind = Kind::Udp;
-    }
-    let drawn = draft.message.unwrap_or(Message { service: 0, method: 0, version: 1, message: 0, code: 0 });
-    draft.message = Some(Message {
-        service: if rule.has(set::SERVICE) { rule.service } else { drawn.service },
-        method: if rule.has(set::METHOD) { rule.method } else { drawn.method },
-        version: if rule.has(set::VERSION) { rule.version } else { drawn.version },
-        message: if rule.has(set::MESSAGE) { rule.message } else { drawn.message },
-        code: if rule.has(set::CODE) { rule.code } else { drawn.code },
-    });
-}
-
-/// Alters one thing of an aimed frame, mostly by as little as can be.
-pub fn near_miss(rule: &Rule, draft: &mut Draft, random: &mut Random) {
-    match random.below(14) {
-        0 => draft.sport = rule.sports.high.wrapping_add(1),
-        1 => draft.sport = rule.sports.low.wrapping_sub(1),
-        2 => draft.dport = rule.dports.high.wrapping_add(1),
-        3 => draft.dport = rule.dports.low.wrapping_sub(1),
-        // The last bit that a prefix compares, or the first that it does not.
-        4 => draft.source ^= near_bit(rule.source, random),
-        5 => draft.destination ^= near_bit(rule.destination, random),
-        6 => draft.protocol = Some(random.pick(&[1, 6, 17])),
-        7 => draft.kind = if draft.kind == Kind::Tcp { Kind::Udp } else { Kind::Tcp },
-        8 => draft.ether = random.pick(&ETHERS),
-        9 => draft.tags.clear(),
-        10 => draft.tags = draft.tags.iter().map(|tag| tag ^ 1 << random.below(16)).collect(),
-        11 => draft.dst ^= 1 << random.below(48),
-        12 => draft.src ^= 1 << random.below(48),
-        _ => near_message(draft, random),
-    }
-}
-
-fn near_bit(prefix: Prefix, random: &mut Random) -> u32 {
-    let bit = (32 - u32::from(prefix.length)).saturating_sub(random.below(2) as u32);
-    1 << bit.min(31)
-}
-
-fn near_message(draft: &mut Draft, random: &mut Random) {
-    let Some(message) = &mut draft.message else { return };
-    match random.below(5) {
-        0 => message.service ^= 1 << random.below(16),
-        1 => message.method ^= 1 << random.below(16),
-        2 => message.version ^= 1 << random.below(8),
-        3 => message.message ^= 1 << random.below(8),
-        _ => message.code ^= 1 << random.below(8),
     }
 }

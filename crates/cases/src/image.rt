@@ -1,14 +1,18 @@
 // The image of a table and that of records, taken apart.
 ghost use Prim.Native.Nat.{_+_, _≤_, _<_};
+use addresses::read128;
 use numbers::count8;
 use numbers::read16;
 use numbers::read32;
 use numbers::read48;
+use numbers::read64;
 use numbers::wide64;
 use places::PLACE_WORDS;
 use places::PlaceWords;
+use places::Quad;
 use places::RulePlaces;
 use places::place::ipv4_quad;
+use places::place::ipv6_quad;
 use places::place::phase_of;
 use places::place::place_words;
 use records::Counts;
@@ -16,11 +20,14 @@ use records::Head;
 use records::Places;
 use table::Action;
 use table::Ipv4Settings;
+use table::Ipv6Settings;
 use table::Kind;
 use table::KindSetting;
 use table::LinkSettings;
 use table::PLACES;
 use table::Prefix;
+use table::Prefix6;
+use table::Prefix6Setting;
 use table::PrefixSetting;
 use table::Range;
 use table::RangeSetting;
@@ -44,12 +51,6 @@ type RuleImage = [u8; 192];
 pub const TABLE: usize = 12370;
 
 pub const RECORDS: usize = 33812;
-
-pub(crate) fn read64(s: &Image, at: usize) -> u64
-    requires { ⌜ at + 8 ≤ 33812 ⌝ }
-{
-    wide64(read32(s, at)) * 4294967296 + wide64(read32(s, at + 4))
-}
 
 fn action(b: u8) -> Action {
     if b == 0 { Action::Allow } else { Action::Block }
@@ -120,6 +121,20 @@ fn prefix(r: &RuleImage, at: usize, set: u32, bit: u32) -> PrefixSetting
     }
 }
 
+fn prefix6(r: &RuleImage, at: usize, set: u32, bit: u32) -> Prefix6Setting
+    requires at { ⌜ at + 17 ≤ 192 ⌝ }
+    requires bit { ⌜ bit < 32 ⌝ }
+{
+    if is_set(set, bit) {
+        Prefix6Setting::Set(Prefix6 {
+            address: read128(r, at),
+            length: r[at + 16],
+        })
+    } else {
+        Prefix6Setting::Unset
+    }
+}
+
 fn range(r: &RuleImage, at: usize, set: u32, bit: u32) -> RangeSetting
     requires at { ⌜ at + 4 ≤ 192 ⌝ }
     requires bit { ⌜ bit < 32 ⌝ }
@@ -163,6 +178,14 @@ fn ipv4(r: &RuleImage, set: u32) -> Ipv4Settings {
     }
 }
 
+fn ipv6(r: &RuleImage, set: u32) -> Ipv6Settings {
+    Ipv6Settings {
+        source: prefix6(r, 61, set, 20),
+        destination: prefix6(r, 78, set, 21),
+        protocol: setting8(r, 95, set, 22),
+    }
+}
+
 fn transport(r: &RuleImage, set: u32) -> TransportSettings {
     TransportSettings {
         kind: kind(r[36], set),
@@ -202,6 +225,7 @@ fn rule(r: &RuleImage) -> Rule {
         action: action(r[2]),
         link: link(r, set),
         ipv4: ipv4(r, set),
+        ipv6: ipv6(r, set),
         transport: transport(r, set),
         someip: someip(r, set),
         rate: rate(r, set),
@@ -267,9 +291,19 @@ fn place(s: &Image, at: usize) -> PlaceWords
     if s[at] == 0 {
         return [0; PLACE_WORDS];
     }
-    let q = ipv4_quad(read32(s, at + 1), read32(s, at + 5), read32(s, at + 9));
     let f = phase_of(state_number(s[at]));
-    place_words(q, f, read32(s, at + 13))
+    place_words(conversation(s, at), f, read32(s, at + 13))
+}
+
+// Of the addresses those of the other kind are ignored.
+fn conversation(s: &Image, at: usize) -> Quad
+    requires { ⌜ at + 64 ≤ 33812 ⌝ }
+{
+    let ports = read32(s, at + 9);
+    if s[at + 17] == 0 {
+        return ipv4_quad(read32(s, at + 1), read32(s, at + 5), ports);
+    }
+    ipv6_quad(read128(s, at + 18), read128(s, at + 34), ports)
 }
 
 fn state_number(b: u8) -> u64 {

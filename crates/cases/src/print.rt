@@ -3,6 +3,8 @@ use crate::output::hex;
 use crate::output::put;
 use crate::output::row;
 use crate::output::text;
+use addresses::Address;
+use addresses::Wide;
 use firewall::Checked;
 use firewall::Judged;
 use firewall::Started;
@@ -11,18 +13,23 @@ use firewall::refusal::Refusal;
 use layers::Layers;
 use layers::Shown;
 use numbers::wide64;
+use packets::Chain;
 use packets::Ip;
 use packets::Link;
 use packets::Packet;
+use packets::Packet6;
 use packets::Tag;
 use payloads::Message;
 use payloads::Segment;
 use payloads::Someip;
 use payloads::Transport;
 use places::PlaceWords;
+use places::Quad;
 use places::RulePlaces;
 use places::place::age;
+use places::place::destination;
 use places::place::quad;
+use places::place::source;
 use places::place::state;
 use records::ACTIVE;
 use records::Counts;
@@ -210,7 +217,26 @@ fn ip(i: Ip, out: &mut [u8; 65536], used: &mut usize) {
     match i {
         Ip::Absent => text(out, used, b" -"),
         Ip::V4(p) => row(out, used, b' ', b',', &packet(p)),
+        Ip::V6(p) => packet6(p, out, used),
     }
+}
+
+// The number after the chain, or that the chain fails.
+fn packet6(p: Packet6, out: &mut [u8; 65536], used: &mut usize) {
+    text(out, used, b" 6,");
+    wide(p.source, out, used);
+    put(out, used, b',');
+    wide(p.destination, out, used);
+    let c = p.chain;
+    match c {
+        Chain::Fails => text(out, used, b",-"),
+        Chain::Ends { number, .. } => row(out, used, b',', b',', &[byte(number)]),
+    }
+}
+
+fn wide(a: Wide, out: &mut [u8; 65536], used: &mut usize) {
+    hex(out, used, a.high, 16);
+    hex(out, used, a.low, 16);
 }
 
 fn packet(p: Packet) -> [u64; 4] {
@@ -333,20 +359,37 @@ fn conversations(k: usize, places: &RulePlaces, out: &mut [u8; 65536], used: &mu
     let mut j = 0;
     while j < PLACES {
         if state(&places[j]) != 0 {
-            line(b'c', &conversation(k, j, &places[j]), out, used);
+            conversation(k, j, &places[j], out, used);
         }
         j += 1;
     }
 }
 
-fn conversation(k: usize, j: usize, place: &PlaceWords) -> [u64; 8] {
+fn conversation(k: usize, j: usize, place: &PlaceWords, out: &mut [u8; 65536], used: &mut usize) {
     let q = quad(place);
+    put(out, used, b'c');
+    row(out, used, b' ', b' ', &[count(k), count(j)]);
+    address(source(q), out, used);
+    address(destination(q), out, used);
+    row(out, used, b' ', b' ', &ends(q, place));
+    put(out, used, b'\n');
+}
+
+// An IPv4 address in decimal, an IPv6 one as 32 hex digits.
+fn address(a: Address, out: &mut [u8; 65536], used: &mut usize) {
+    let bits = a.bits;
+    if a.ipv6 {
+        put(out, used, b' ');
+        wide(bits, out, used);
+        return;
+    }
+    row(out, used, b' ', b' ', &[bits.low]);
+}
+
+// Ports, state and age.
+fn ends(q: Quad, place: &PlaceWords) -> [u64; 4] {
     let ports = q.ports;
     [
-        count(k),
-        count(j),
-        q.source,
-        q.destination,
         wide64(ports / 65536),
         wide64(ports % 65536),
         state(place),

@@ -16,7 +16,7 @@ use Rattle.table.specs.declared.Room.{Room}
 use Rattle.places.specs.Places.{Place, free, isFree, Fits, holds, phaseOf, heldAs}
 use Rattle.flags.specs.Flags.{nextOf}
 use Rattle.conversations.specs.Tracking.{Tracked, moved, begun, heldAt, freeAt, stepOf, trackedIn, tracked}
-use Rattle.places.specs.Good.{placesIn, limitIn, alone, isIpv4}
+use Rattle.places.specs.Good.{placesIn, limitIn, alone, fitsKind}
 use Rattle.places.specs.declared.Quad.{Quad}
 use Rattle.flags.specs.declared.FlagKind.{FlagKind}
 use Rattle.flags.specs.declared.FlagKind.the-variants as kind
@@ -80,7 +80,7 @@ LimitGood tracking.Unset = Unit {0}
 LimitGood (tracking.Set m) = 1 ≤ m .limit
 
 pub places-tracked :
-    (t : Tracking) → LimitGood t → (g : Turn) → isIpv4 (g .quad) ≡ true → (ps : List Place) → PlacesGood (placesIn t) (limitIn t) ps
+    (t : Tracking) → LimitGood t → (g : Turn) → fitsKind (g .quad) ≡ true → (ps : List Place) → PlacesGood (placesIn t) (limitIn t) ps
     → PlacesGood (placesIn t) (limitIn t) (tracked t g ps .places)
 places-tracked tracking.Unset l g v ps p = p
 places-tracked (tracking.Set m) l g v ps p =

@@ -2,7 +2,7 @@
 -- Assumes nothing.
 use Prim.Native.Nat.{ℕ, suc, _+_, _<_, _≤_}
 use mathlib.Core.Path.{_≡_, refl, sym, ap, subst, _∙_}
-use mathlib.Core.Bool.{Bool, true, false, cond, _&&_, not, and-assoc, and-true, and-false}
+use mathlib.Core.Bool.{Bool, true, false, cond, _&&_, not, and-false}
 use mathlib.Core.List.{List, [], _∷_, map, map-append}
 use lib.ListN.{length, getD, set, take, drop, length-map, List·getD-map, drop-of-length-le}
 use lib.Seq.{take-suc, take-suc-set, take-all, drop-cons}
@@ -12,7 +12,7 @@ use native.Mathlib.Nat.{add-zero, zero-add}
 use native.Mathlib.Omega.{arith}
 use borrow.Author.Tests.{lt-ltb, le-ltb}
 use Rattle.numbers.specs.Lists.{firstFrom, first}
-use Rattle.places.specs.Places.{Place, free, isFree, placeOf, placesOf, holds}
+use Rattle.places.specs.Places.{Place, free, isFree, noQuad, placeOf, placesOf, sameQuad, holds}
 use Rattle.conversations.specs.Tracking.{heldAt, freeAt}
 use Rattle.conversations.specs.Scan.{shown, vacant, shows, seenBy, scanFrom, nowhere, scanOf}
 use Rattle.places.specs.declared.Quad.{Quad}
@@ -21,7 +21,7 @@ use Rattle.conversations.specs.declared.scan.Found.{Found}
 
 -- the struct of a free place, where a list has no more
 abbrev pub empty : Conversation
-empty = record { state = 0; source = 0; destination = 0; ports = 0 }
+empty = record { state = 0; quad = noQuad }
 
 -- ---- the loader: the first i of a list are read
 
@@ -49,17 +49,13 @@ read-shown (w ∷ ws) = ap (λ k. read w ∷ k) (read-shown ws)
 
 -- ---- the step, as the code tests it
 
-abbrev same : Quad → Conversation → Bool
-same q c = (eqb (q .source) (c .source) && eqb (q .destination) (c .destination)) && eqb (q .ports) (c .ports)
-
 pub seen-same :
-    (q : Quad) (c : Conversation) (i : ℕ) (f r : Found)
-    → r .held ≡ cond ((not (eqb (c .state) 0) && same q c) && ltb i (f .held)) i (f .held)
+    (q : Quad) (c : Conversation) (i : ℕ) (f r : Found) (same : Bool) → same ≡ sameQuad q (c .quad)
+    → r .held ≡ cond ((not (eqb (c .state) 0) && same) && ltb i (f .held)) i (f .held)
     → r .free ≡ cond (eqb (c .state) 0 && ltb i (f .free)) i (f .free) → r ≡ seenBy q c i f
 unfolding seenBy
-seen-same q c i f r a b =
-    let s = and-assoc (eqb (q .source) (c .source)) (eqb (q .destination) (c .destination)) (eqb (q .ports) (c .ports)) in
-    let h : r .held ≡ seenBy q c i f .held = a ∙ rw (s, and-true (eqb (q .ports) (c .ports))) in
+seen-same q c i f r same s a b =
+    let h = a ∙ ap (λ (t : Bool). cond ((not (eqb (c .state) 0) && t) && ltb i (f .held)) i (f .held)) s in
     λ k. record { held = h k; free = b k }
 
 -- ---- the loop: f is found before place i, and the rest of the scan from there gives what the whole gives

@@ -12,7 +12,7 @@ use Rattle.conversations.specs.declared.scan.Found.{Found}
 
 -- what the scan looks at in a place: its state and its quadruple
 abbrev pub shown : Place → Conversation
-shown p = record { state = p .state; source = p .quad .source; destination = p .quad .destination; ports = p .quad .ports }
+shown p = record { state = p .state; quad = p .quad }
 
 -- no conversation stands there
 abbrev pub vacant : Conversation → Bool
@@ -20,7 +20,7 @@ vacant c = eqb (c .state) 0
 
 -- the one of the quadruple does
 abbrev pub shows : Quad → Conversation → Bool
-shows q c = not (vacant c) && sameQuad q (record { source = c .source; destination = c .destination; ports = c .ports })
+shows q c = not (vacant c) && sameQuad q (c .quad)
 
 -- what is found once the place at i is seen: the first that holds the quadruple, and "the first free place"
 unfoldable pub seenBy : Quad → Conversation → ℕ → Found → Found

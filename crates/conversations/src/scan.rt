@@ -6,24 +6,20 @@ ghost use Rattle.places.specs.Places.{placeOf, placesOf};
 ghost use Rattle.table.specs.Table.{mostPlaces};
 ghost use Rattle.conversations.specs.Tracking.{heldAt, freeAt};
 ghost use Rattle.conversations.specs.Scan.{shown, seenBy, scanOf};
-use places::BOTH_PORTS;
-use places::DESTINATION;
 use places::HELD;
 use places::KIND_BIT;
 use places::PLACE_WORDS;
 use places::PlaceWords;
 use places::Quad;
 use places::RulePlaces;
-use places::SOURCE;
-use places::place::high32;
+use places::place::quad;
+use places::place::same_quad;
 use table::PLACES;
 
 // What the scan looks at in a place, free or held.
 pub struct Conversation {
     pub state: u64,
-    pub source: u64,
-    pub destination: u64,
-    pub ports: u32,
+    pub quad: Quad,
 }
 
 // The first place that holds the quadruple and the first free place; the number of places where there is none.
@@ -39,9 +35,7 @@ fn read_place(w: PlaceWords) -> Conversation
 {
     Conversation {
         state: w[HELD] % KIND_BIT,
-        source: w[SOURCE],
-        destination: w[DESTINATION],
-        ports: high32(w[BOTH_PORTS]),
+        quad: quad(&w),
     }
 }
 
@@ -82,7 +76,8 @@ pub(crate) fn seen(c: Conversation, q: Quad, found: Found, i: usize) -> Found
 {
     let vacant = c.state == 0;
     let taken = c.state != 0;
-    let same = (q.source == c.source) & (q.destination == c.destination) & (q.ports == c.ports);
+    let there = c.quad;
+    let same = same_quad(q, there);
     Found {
         held: place_if(taken & same & (i < found.held), i, found.held),
         free: place_if(vacant & (i < found.free), i, found.free),

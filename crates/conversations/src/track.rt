@@ -15,6 +15,7 @@ use places::PLACE_WORDS;
 use places::PlaceWords;
 use places::Quad;
 use places::RulePlaces;
+use places::place::no_quad;
 use places::place::phase_of;
 use places::place::place_words;
 use places::place::state;
@@ -37,12 +38,7 @@ fn find_free(n: usize, ps: &RulePlaces) -> usize
     requires { ⌜ n ≤ mostPlaces ⌝ }
     ensures { λ x. ⌜ x ≡ freeAt (placesOf (now (ps .entry))) n ⌝ }
 {
-    let none = Quad {
-        source: 0,
-        destination: 0,
-        ports: 0,
-    };
-    let found = find(none, ps);
+    let found = find(no_quad(), ps);
     if found.free < n { found.free } else { n }
 }
 

@@ -20,8 +20,8 @@ use Rattle.payloads.specs.declared.Someip.{Someip}
 use Rattle.payloads.specs.declared.Someip.the-variants as someip
 use Rattle.layers.specs.declared.Layers.{Layers}
 use Rattle.layers.specs.Seen.{seen}
-use Rattle.events.specs.Events.{array, ipv4Header, tcpHeader, udpHeader, someipHeader, numberOf, eventBytes}
-use Rattle.events.specs.Arrays.{lengthOf, heading, ipv4Span, tcpSpan, udpSpan, someipSpan, spanOf, headerIn}
+use Rattle.events.specs.Events.{array, ipv4Header, ipv6Header, tcpHeader, udpHeader, someipHeader, numberOf, eventBytes, longestEvent}
+use Rattle.events.specs.Arrays.{lengthOf, heading, ipv4Span, ipv6Span, tcpSpan, udpSpan, someipSpan, spanOf, headerIn}
 use Rattle.events.specs.declared.Event.{Event}
 use Rattle.events.specs.declared.Event.the-variants as event
 use Rattle.events.specs.declared.Span.{Span}
@@ -57,6 +57,12 @@ front-four [] a b c d h = absurd (omega arith)
 ipv4-in : (s : List ℕ) (x : Ip) → headerIn s (ipv4Span x) ≡ ipv4Header s x
 ipv4-in s ip.Absent = refl
 ipv4-in s (ip.V4 p) = refl
+ipv4-in s (ip.V6 p) = refl
+
+ipv6-in : (s : List ℕ) (x : Ip) → headerIn s (ipv6Span x) ≡ ipv6Header s x
+ipv6-in s ip.Absent = refl
+ipv6-in s (ip.V4 p) = refl
+ipv6-in s (ip.V6 p) = refl
 
 tcp-in : (s : List ℕ) (x : Transport) → headerIn s (tcpSpan x) ≡ tcpHeader s x
 tcp-in s transport.Absent = refl
@@ -81,6 +87,7 @@ event-parts event.StateTransition id s l = refl
 event-parts event.MaxConnections id s l = simp (append-nil, tcp-in)
 event-parts event.LinkMismatch id s l = simp append-nil
 event-parts event.Ipv4Mismatch id s l = simp (append-nil, ipv4-in)
+event-parts event.Ipv6Mismatch id s l = simp (append-nil, ipv6-in)
 event-parts event.TcpMismatch id s l = simp (append-nil, tcp-in)
 event-parts event.UdpMismatch id s l = simp (append-nil, udp-in)
 event-parts event.SomeipMismatch id s l = simp (append-nil, someip-in)
@@ -91,16 +98,18 @@ shortest event.StateTransition = omega arith
 shortest event.MaxConnections = omega arith
 shortest event.LinkMismatch = omega arith
 shortest event.Ipv4Mismatch = omega arith
+shortest event.Ipv6Mismatch = omega arith
 shortest event.TcpMismatch = omega arith
 shortest event.UdpMismatch = omega arith
 shortest event.SomeipMismatch = omega arith
 
-pub longest : (e : Event) → lengthOf e ≤ 34
+pub longest : (e : Event) → lengthOf e ≤ longestEvent
 longest event.Ratelimit = omega arith
 longest event.StateTransition = omega arith
 longest event.MaxConnections = omega arith
 longest event.LinkMismatch = omega arith
 longest event.Ipv4Mismatch = omega arith
+longest event.Ipv6Mismatch = omega arith
 longest event.TcpMismatch = omega arith
 longest event.UdpMismatch = omega arith
 longest event.SomeipMismatch = omega arith
@@ -110,7 +119,7 @@ pub event-length : (e : Event) (id : ℕ) (s : List ℕ) (l : Layers) → length
 event-length e id s l = rw (event-parts e id s l, length-append, length-array) (omega (arith, shortest e))
 
 -- no event reaches the 256 bytes at which it would end
-pub event-bound : (e : Event) (id : ℕ) (s : List ℕ) (l : Layers) → length (eventBytes e id (seen s l)) ≤ 34
+pub event-bound : (e : Event) (id : ℕ) (s : List ℕ) (l : Layers) → length (eventBytes e id (seen s l)) ≤ longestEvent
 event-bound e id s l = rw (event-length e id s l) (longest e)
 
 -- ---- the header lies within the frame
@@ -118,6 +127,12 @@ event-bound e id s l = rw (event-length e id s l) (longest e)
 ipv4-fits : (s : List ℕ) (x : Ip) → IpInside s x → ipv4Span x .at + ipv4Span x .len ≤ length s
 ipv4-fits s ip.Absent h = omega arith
 ipv4-fits s (ip.V4 p) h = omega (arith, h .joined, h .payload)
+ipv4-fits s (ip.V6 p) h = omega arith
+
+ipv6-fits : (s : List ℕ) (x : Ip) → IpInside s x → ipv6Span x .at + ipv6Span x .len ≤ length s
+ipv6-fits s ip.Absent h = omega arith
+ipv6-fits s (ip.V4 p) h = omega arith
+ipv6-fits s (ip.V6 p) h = h .header
 
 tcp-fits : (s : List ℕ) (x : Transport) → TransportInside s x → tcpSpan x .at + tcpSpan x .len ≤ length s
 tcp-fits s transport.Absent h = omega arith
@@ -139,6 +154,7 @@ span-fits event.StateTransition s l h k = omega arith
 span-fits event.MaxConnections s l h k = tcp-fits s (l .transport) (h .transport)
 span-fits event.LinkMismatch s l h k = omega (arith, h .link)
 span-fits event.Ipv4Mismatch s l h k = ipv4-fits s (l .ip) (h .ip)
+span-fits event.Ipv6Mismatch s l h k = ipv6-fits s (l .ip) (h .ip)
 span-fits event.TcpMismatch s l h k = tcp-fits s (l .transport) (h .transport)
 span-fits event.UdpMismatch s l h k = udp-fits s (l .transport) (h .transport)
 span-fits event.SomeipMismatch s l h k = someip-fits s (l .someip) (h .someip)
@@ -146,7 +162,7 @@ span-fits event.SomeipMismatch s l h k = someip-fits s (l .someip) (h .someip)
 -- ---- the event written to the start of a space
 
 laid :
-    (e : Event) (id : ℕ) (s : List ℕ) (l : Layers) (space : List ℕ) (n : ℕ) → 34 ≤ length space → n ≡ lengthOf e - 4
+    (e : Event) (id : ℕ) (s : List ℕ) (l : Layers) (space : List ℕ) (n : ℕ) → longestEvent ≤ length space → n ≡ lengthOf e - 4
     → heading (numberOf e) id ++ (array (length (take n (drop 4 space))) (headerIn s (spanOf e l)) ++ drop n (drop 4 space))
     ≡ eventBytes e id (seen s l) ++ drop (length (eventBytes e id (seen s l))) space
 laid e id s l space n h q =
@@ -156,7 +172,7 @@ laid e id s l space n h q =
 
 -- what is put between the heading and the rest of the space is the header's array
 pub event-laid :
-    (e : Event) (id : ℕ) (s : List ℕ) (l : Layers) (space w ys : List ℕ) (stop : ℕ) (p : Span) → 34 ≤ length space
+    (e : Event) (id : ℕ) (s : List ℕ) (l : Layers) (space w ys : List ℕ) (stop : ℕ) (p : Span) → longestEvent ≤ length space
     → w ≡ heading (numberOf e) id ++ drop 4 space → stop ≡ lengthOf e → p ≡ spanOf e l
     → ys ≡ array (length (take (stop - 4) (drop 4 w))) (take (p .at + p .len - p .at) (drop (p .at) s))
     → take 4 w ++ (ys ++ drop (stop - 4) (drop 4 w)) ≡ eventBytes e id (seen s l) ++ drop (length (eventBytes e id (seen s l))) space

@@ -2,6 +2,7 @@
 -- Assumes nothing.
 use Prim.Native.Nat.{ℕ}
 use mathlib.Core.List.{List, _++_}
+use Rattle.packets.specs.Ipv6.{ipv6Bytes}
 use Rattle.packets.specs.declared.Ip.{Ip}
 use Rattle.packets.specs.declared.Ip.the-variants as ip
 use Rattle.payloads.specs.declared.Transport.{Transport}
@@ -21,6 +22,7 @@ lengthOf event.StateTransition = 4
 lengthOf event.MaxConnections = 28
 lengthOf event.LinkMismatch = 34
 lengthOf event.Ipv4Mismatch = 28
+lengthOf event.Ipv6Mismatch = 44
 lengthOf event.TcpMismatch = 28
 lengthOf event.UdpMismatch = 12
 lengthOf event.SomeipMismatch = 20
@@ -36,6 +38,12 @@ nowhere = record { at = 0; len = 0 }
 abbrev pub ipv4Span : Ip → Span
 ipv4Span ip.Absent = nowhere
 ipv4Span (ip.V4 p) = record { at = p .header; len = p .hlen }
+ipv4Span (ip.V6 p) = nowhere
+
+abbrev pub ipv6Span : Ip → Span
+ipv6Span ip.Absent = nowhere
+ipv6Span (ip.V4 p) = nowhere
+ipv6Span (ip.V6 p) = record { at = p .header; len = ipv6Bytes }
 
 abbrev pub tcpSpan : Transport → Span
 tcpSpan transport.Absent = nowhere
@@ -57,6 +65,7 @@ spanOf event.StateTransition l = nowhere
 spanOf event.MaxConnections l = tcpSpan (l .transport)
 spanOf event.LinkMismatch l = record { at = 0; len = l .link .hlen }
 spanOf event.Ipv4Mismatch l = ipv4Span (l .ip)
+spanOf event.Ipv6Mismatch l = ipv6Span (l .ip)
 spanOf event.TcpMismatch l = tcpSpan (l .transport)
 spanOf event.UdpMismatch l = udpSpan (l .transport)
 spanOf event.SomeipMismatch l = someipSpan (l .someip)

@@ -7,7 +7,8 @@ use mathlib.Core.List.{List, [], _∷_, _++_}
 use mathlib.Core.Bool.{cond}
 use lib.ListN.{length, take, drop}
 use lib.Dec.{eqb}
-use Rattle.numbers.specs.Lists.{copies}
+use Rattle.numbers.specs.Lists.{every, copies}
+use Rattle.packets.specs.Ipv6.{ipv6Bytes}
 use Rattle.packets.specs.declared.Ip.{Ip}
 use Rattle.packets.specs.declared.Ip.the-variants as ip
 use Rattle.payloads.specs.declared.Transport.{Transport}
@@ -16,6 +17,7 @@ use Rattle.payloads.specs.declared.Someip.{Someip}
 use Rattle.payloads.specs.declared.Someip.the-variants as someip
 use Rattle.layers.specs.Seen.{Seen}
 use Rattle.table.specs.declared.Rule.{Rule}
+use Rattle.table.specs.Marks.{ipv6Unset}
 use Rattle.table.specs.Settings.{ofKind}
 use Rattle.table.specs.Table.{isTcp}
 use Rattle.events.specs.declared.Event.{Event}
@@ -40,6 +42,13 @@ linkHeader x = part (x .bytes) 0 (x .layers .link .hlen)
 abbrev pub ipv4Header : List ℕ → Ip → List ℕ
 ipv4Header s ip.Absent = []
 ipv4Header s (ip.V4 p) = part s (p .header) (p .hlen)
+ipv4Header s (ip.V6 p) = []
+
+-- the 40 bytes, and no extension header
+abbrev pub ipv6Header : List ℕ → Ip → List ℕ
+ipv6Header s ip.Absent = []
+ipv6Header s (ip.V4 p) = []
+ipv6Header s (ip.V6 p) = part s (p .header) ipv6Bytes
 
 abbrev pub tcpHeader : List ℕ → Transport → List ℕ
 tcpHeader s transport.Absent = []
@@ -59,11 +68,12 @@ someipHeader s (someip.Present m) = part s (m .header) 16
 abbrev pub sourceMac : List ℕ → List ℕ
 sourceMac s = part s 6 6
 
--- the rows of 001's context data, each with its length from there
+-- the rows of 001's context data, each with its length from there. In event 52 it prints CompleteIPv4Header uint8[40], a slip: 40 bytes are the IPv6 header
 pub data Row : Type 0 where
   FirewallRuleId : Row
   CompleteEthernetHeader : Row
   CompleteIPv4Header : Row
+  CompleteIPv6Header : Row
   CompleteTCPHeader : Row
   CompleteUDPHeader : Row
   CompleteSOMEIPHeader : Row
@@ -73,6 +83,7 @@ abbrev pub rowBytes : ℕ → Seen → Row → List ℕ
 rowBytes id x FirewallRuleId = word16 id
 rowBytes id x CompleteEthernetHeader = array 30 (linkHeader x)
 rowBytes id x CompleteIPv4Header = array 24 (ipv4Header (x .bytes) (x .layers .ip))
+rowBytes id x CompleteIPv6Header = array 40 (ipv6Header (x .bytes) (x .layers .ip))
 rowBytes id x CompleteTCPHeader = array 24 (tcpHeader (x .bytes) (x .layers .transport))
 rowBytes id x CompleteUDPHeader = array 8 (udpHeader (x .bytes) (x .layers .transport))
 rowBytes id x CompleteSOMEIPHeader = array 16 (someipHeader (x .bytes) (x .layers .someip))
@@ -85,6 +96,7 @@ numberOf event.StateTransition = 63
 numberOf event.MaxConnections = 61
 numberOf event.LinkMismatch = 77
 numberOf event.Ipv4Mismatch = 51
+numberOf event.Ipv6Mismatch = 52
 numberOf event.TcpMismatch = 54
 numberOf event.UdpMismatch = 55
 numberOf event.SomeipMismatch = 56
@@ -95,6 +107,7 @@ rowsOf event.StateTransition = FirewallRuleId ∷ []
 rowsOf event.MaxConnections = FirewallRuleId ∷ CompleteTCPHeader ∷ []
 rowsOf event.LinkMismatch = FirewallRuleId ∷ CompleteEthernetHeader ∷ []
 rowsOf event.Ipv4Mismatch = FirewallRuleId ∷ CompleteIPv4Header ∷ []
+rowsOf event.Ipv6Mismatch = FirewallRuleId ∷ CompleteIPv6Header ∷ []
 rowsOf event.TcpMismatch = FirewallRuleId ∷ CompleteTCPHeader ∷ []
 rowsOf event.UdpMismatch = FirewallRuleId ∷ CompleteUDPHeader ∷ []
 rowsOf event.SomeipMismatch = FirewallRuleId ∷ CompleteSOMEIPHeader ∷ []
@@ -109,7 +122,7 @@ eventBytes e id x = word16 (numberOf e) ++ rowsBytes id x (rowsOf e)
 
 -- the longest event has so many bytes
 abbrev pub longestEvent : ℕ
-longestEvent = 34
+longestEvent = 44
 
 -- the event space that a judged frame asks, in bytes
 abbrev pub eventRoom : ℕ
@@ -124,9 +137,9 @@ pub record Wrote (event space after : List ℕ) (n : ℕ) : Type 0 where
   pub count : n ≡ length event
   pub left : after ≡ written event space
 
--- "its next layer names the event (link, IPv4, TCP or UDP by that rule's kind, SOME/IP)"
+-- "its next layer names the event (link, IPv4, TCP or UDP by that rule's kind, SOME/IP)"; 2/12: "the IPv6 event of 001 when the rule's settings are IPv6"
 unfoldable pub mismatchOf : Rule → ℕ → Event
 mismatchOf r layer =
     cond (eqb layer 0) event.LinkMismatch
-    (cond (eqb layer 1) event.Ipv4Mismatch
+    (cond (eqb layer 1) (cond (every (ipv6Unset (r .ipv6))) event.Ipv4Mismatch event.Ipv6Mismatch)
     (cond (eqb layer 2) (cond (isTcp (ofKind (r .transport .kind))) event.TcpMismatch event.UdpMismatch) event.SomeipMismatch))

@@ -14,6 +14,7 @@ ghost use Rattle.events.specs.Arrays.{
   heading,
   nowhere,
   ipv4Span,
+  ipv6Span,
   tcpSpan,
   udpSpan,
   someipSpan,
@@ -37,6 +38,7 @@ pub enum Event {
     MaxConnections,
     LinkMismatch,
     Ipv4Mismatch,
+    Ipv6Mismatch,
     TcpMismatch,
     UdpMismatch,
     SomeipMismatch,
@@ -53,6 +55,8 @@ impl Event {
 
     pub const IPV4_MISMATCH: u16 = 51;
 
+    pub const IPV6_MISMATCH: u16 = 52;
+
     pub const TCP_MISMATCH: u16 = 54;
 
     pub const UDP_MISMATCH: u16 = 55;
@@ -68,6 +72,7 @@ impl Event {
             Event::MaxConnections => Event::MAX_CONNECTIONS,
             Event::LinkMismatch => Event::LINK_MISMATCH,
             Event::Ipv4Mismatch => Event::IPV4_MISMATCH,
+            Event::Ipv6Mismatch => Event::IPV6_MISMATCH,
             Event::TcpMismatch => Event::TCP_MISMATCH,
             Event::UdpMismatch => Event::UDP_MISMATCH,
             Event::SomeipMismatch => Event::SOMEIP_MISMATCH,
@@ -84,6 +89,7 @@ impl Event {
             Event::MaxConnections => 28,
             Event::LinkMismatch => 34,
             Event::Ipv4Mismatch => 28,
+            Event::Ipv6Mismatch => 44,
             Event::TcpMismatch => 28,
             Event::UdpMismatch => 12,
             Event::SomeipMismatch => 20,
@@ -113,6 +119,21 @@ fn ipv4_span(ip: Ip) -> Span
         Ip::V4(p) => Span {
             at: p.header,
             len: p.hlen,
+        },
+        Ip::V6(_) => Span::nowhere(),
+    }
+}
+
+// The header alone, and none of the extension headers behind it.
+fn ipv6_span(ip: Ip) -> Span
+    ensures { λ r. ⌜ r ≡ ipv6Span ip ⌝ }
+{
+    match ip {
+        Ip::Absent => Span::nowhere(),
+        Ip::V4(_) => Span::nowhere(),
+        Ip::V6(p) => Span {
+            at: p.header,
+            len: 40,
         },
     }
 }
@@ -172,6 +193,7 @@ fn span_of(e: Event, l: Layers) -> Span
             len: link.hlen,
         },
         Event::Ipv4Mismatch => ipv4_span(ip),
+        Event::Ipv6Mismatch => ipv6_span(ip),
         Event::TcpMismatch => tcp_span(transport),
         Event::UdpMismatch => udp_span(transport),
         Event::SomeipMismatch => someip_span(someip),
@@ -242,7 +264,10 @@ pub fn mismatch(r: &RuleWords, layer: usize) -> Event
         return Event::LinkMismatch;
     }
     if layer == 1 {
-        return Event::Ipv4Mismatch;
+        if words::no_ipv6(r) {
+            return Event::Ipv4Mismatch;
+        }
+        return Event::Ipv6Mismatch;
     }
     if layer == 2 {
         let transport = words::transport(r);

@@ -10,7 +10,7 @@ use Rattle.layers.specs.Layers.{layersOf}
 use Rattle.packets.specs.declared.Ip.{Ip}
 use Rattle.packets.specs.declared.Ip.the-variants as ip
 use Rattle.table.specs.Table.{mostPlaces}
-use Rattle.places.specs.Places.{Place, free, nothing}
+use Rattle.places.specs.Places.{Place, free, nothing, ipv4Quad}
 use Rattle.verdicts.specs.Record.{RuleRecord}
 use Rattle.records.specs.Records.{Lent, default, recordAt, recordsOf, wordsOf}
 use Rattle.records.specs.Step.{freshOf}
@@ -83,7 +83,7 @@ byDefault passed blocked = record { level = 0; passed = passed; blocked = blocke
 abbrev pub conversation : ℕ → ℕ → ℕ → Place
 conversation port state age = record {
   state = state;
-  quad = record { source = 0x0a000002; destination = 0x0a010001; ports = 443 * 65536 + port };
+  quad = ipv4Quad 0x0a000002 0x0a010001 (443 * 65536 + port);
   age = age;
   unused = nothing;
 }
@@ -268,6 +268,7 @@ pub record Ran : Type 0 where
 abbrev pub present : Ip → ℕ
 present ip.Absent = 0
 present (ip.V4 p) = 1
+present (ip.V6 p) = 0
 
 abbrev pub ipv4In : Item → ℕ
 ipv4In (arrives a space) = present (layersOf (a .bytes) .ip)

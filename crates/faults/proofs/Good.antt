@@ -22,7 +22,7 @@ use Rattle.table.specs.declared.Tracking.the-variants as tracking
 use Rattle.faults.specs.declared.AtFault.{AtFault}
 use Rattle.faults.specs.declared.Fault.the-variants as fault
 use Rattle.ranges.proofs.Rules.{fromTracking, tracking-good}
-use Rattle.table.proofs.Prefixes.{none-beyond}
+use Rattle.table.proofs.Shifts.{none-beyond}
 
 -- the count, the rules and the states are good
 no-fault :

@@ -11,9 +11,9 @@ use lib.Dec.{eqb, ltb, leb}
 use lib.ListN.{length, getD}
 use lib.Pow.{high, low, shr-shr, pow-add}
 use Rattle.numbers.proofs.Lists.{and-both}
-use Rattle.table.specs.Settings.{of8, of16, of32, of64, ofKind, ofRange, ofPrefix, isUnset}
+use Rattle.table.specs.Settings.{of8, of16, of32, of64, ofKind, ofRange, ofPrefix, ofPrefix6, isUnset}
 use Rattle.table.specs.Table.{marked}
-use Rattle.table.specs.Marks.{linkUnset, ipv4Unset, transportUnset, someipUnset, rateUnset, trackingUnset}
+use Rattle.table.specs.Marks.{linkUnset, ipUnset, transportUnset, someipUnset, rateUnset, trackingUnset}
 use Rattle.table.specs.Words.{
   ruleWord,
   linkWord,
@@ -21,6 +21,8 @@ use Rattle.table.specs.Words.{
   sourceWord,
   ipWord,
   addressWord,
+  source6Word,
+  destination6Word,
   transportWord,
   portWord,
   someipWord,
@@ -39,8 +41,10 @@ use Rattle.table.specs.Words.{
   kindSettingIn,
   rangeIn,
   prefixIn,
+  prefix6In,
   linkIn,
   ipv4In,
+  ipv6In,
   transportIn,
   someipIn,
   rateIn,
@@ -57,6 +61,7 @@ use Rattle.fields.specs.Fields.{
   kindOr,
   rangeOr,
   prefixOr,
+  prefix6Or,
   ruleFields,
   linkFields,
   ipFields,
@@ -85,7 +90,10 @@ use Rattle.table.specs.declared.RangeSetting.{RangeSetting}
 use Rattle.table.specs.declared.RangeSetting.the-variants as setRange
 use Rattle.table.specs.declared.PrefixSetting.{PrefixSetting}
 use Rattle.table.specs.declared.PrefixSetting.the-variants as setPrefix
+use Rattle.table.specs.declared.Prefix6Setting.{Prefix6Setting}
+use Rattle.table.specs.declared.Prefix6Setting.the-variants as setPrefix6
 use Rattle.table.specs.declared.Rule.{Rule}
+use Rattle.addresses.specs.declared.Wide.{Wide}
 
 -- ---- fields
 
@@ -236,7 +244,21 @@ module _ (w : List ℕ) (layer : ℕ) where
   prefix-read (setPrefix.Set v) bit from k at e f g =
       picked false _ _ e ∙ (λ i. setPrefix.Set (record { address = g i; length = f i }))
 
+  prefix6-read :
+      (s : Prefix6Setting) (bit from k : ℕ) → bits bit 1 (word w layer) ≡ bitOf (isUnset (ofPrefix6 s))
+      → bits from 8 (word w layer) ≡ prefix6Or s .length → word w k ≡ prefix6Or s .address .high
+      → word w (k + 1) ≡ prefix6Or s .address .low → prefix6In w layer bit from k ≡ s
+  unfolding marked prefix6In
+  prefix6-read setPrefix6.Unset bit from k e f g h = picked true _ _ e
+  prefix6-read (setPrefix6.Set v) bit from k e f g h =
+      picked false _ _ e ∙ (λ i. setPrefix6.Set (record { address = record { high = g i; low = h i }; length = f i }))
+
 -- ---- rules
+
+-- the two words of an address
+pub record HeldWide (a : Wide) (w : List ℕ) (k : ℕ) : Type 0 where
+  pub high : word w k ≡ a .high
+  pub low : word w (k + 1) ≡ a .low
 
 -- words that hold what a rule's row holds
 pub record Held (r : Rule) (w : List ℕ) : Type 0 where
@@ -244,8 +266,10 @@ pub record Held (r : Rule) (w : List ℕ) : Type 0 where
   pub link : Laid (linkFields (r .link)) (word w linkWord)
   pub destination : word w destinationWord ≡ valueOr 0 (of64 (r .link .destination))
   pub source : word w sourceWord ≡ valueOr 0 (of64 (r .link .source))
-  pub ip : Laid (ipFields (r .ipv4)) (word w ipWord)
+  pub ip : Laid (ipFields (r .ipv4) (r .ipv6)) (word w ipWord)
   pub address : Laid (addressFields (r .ipv4)) (word w addressWord)
+  pub source6 : HeldWide (prefix6Or (r .ipv6 .source) .address) w source6Word
+  pub destination6 : HeldWide (prefix6Or (r .ipv6 .destination) .address) w destination6Word
   pub transport : Laid (transportFields (r .transport)) (word w transportWord)
   pub port : Laid (portFields (r .transport)) (word w portWord)
   pub someip : Laid (someipFields (r .someip)) (word w someipWord)
@@ -269,11 +293,23 @@ module _ (r : Rule) (w : List ℕ) (h : Held r w) where
   ipv4-read : ipv4In w ≡ r .ipv4
   ipv4-read =
       let s = r .ipv4 in
-      let m = mark-told (ipv4Unset s) (h .ip) in
+      let m = mark-told (ipUnset s (r .ipv6)) (h .ip) in
       λ i. record {
         source = prefix-read w ipWord (s .source) 0 8 addressWord 0 (m 0 refl) (told (h .ip) 1) (told (h .address) 0) i;
         destination = prefix-read w ipWord (s .destination) 1 16 addressWord 32 (m 1 refl) (told (h .ip) 2) (told (h .address) 1) i;
         protocol = setting8-read w ipWord (s .protocol) 2 24 (m 2 refl) (told (h .ip) 3) i;
+      }
+
+  ipv6-read : ipv6In w ≡ r .ipv6
+  ipv6-read =
+      let s = r .ipv6 in
+      let m = mark-told (ipUnset (r .ipv4) s) (h .ip) in
+      let a = h .source6 in
+      let b = h .destination6 in
+      λ i. record {
+        source = prefix6-read w ipWord (s .source) 3 32 source6Word (m 3 refl) (told (h .ip) 4) (a .high) (a .low) i;
+        destination = prefix6-read w ipWord (s .destination) 4 40 destination6Word (m 4 refl) (told (h .ip) 5) (b .high) (b .low) i;
+        protocol = setting8-read w ipWord (s .protocol) 5 48 (m 5 refl) (told (h .ip) 6) i;
       }
 
   transport-read : transportIn w ≡ r .transport
@@ -323,6 +359,7 @@ module _ (r : Rule) (w : List ℕ) (h : Held r w) where
     action = (ap actionFrom (told (h .rule) 1) ∙ action-read (r .action)) i;
     link = link-read i;
     ipv4 = ipv4-read i;
+    ipv6 = ipv6-read i;
     transport = transport-read i;
     someip = someip-read i;
     rate = rate-read i;

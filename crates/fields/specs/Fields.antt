@@ -4,17 +4,20 @@ use Prim.Native.Nat.{ℕ, _+_, _*_, _^_, _<_}
 use mathlib.Core.Path.{_≡_}
 use mathlib.Core.List.{List, [], _∷_}
 use mathlib.Core.Bool.{Bool, cond}
-use Rattle.table.specs.Marks.{linkUnset, ipv4Unset, transportUnset, someipUnset, rateUnset, trackingUnset}
-use Rattle.table.specs.Settings.{Setting, unset, set, of8, of16, of32, ofRange, ofPrefix}
+use Rattle.table.specs.Marks.{linkUnset, ipUnset, transportUnset, someipUnset, rateUnset, trackingUnset}
+use Rattle.table.specs.Settings.{Setting, unset, set, of8, of16, of32, ofRange, ofPrefix, ofPrefix6}
 use Rattle.table.specs.Words.{actionCode, kindCode}
 use Rattle.table.specs.declared.Range.{Range}
 use Rattle.table.specs.declared.Prefix.{Prefix}
+use Rattle.table.specs.declared.Prefix6.{Prefix6}
 use Rattle.table.specs.declared.KindSetting.{KindSetting}
 use Rattle.table.specs.declared.KindSetting.the-variants as setKind
 use Rattle.table.specs.declared.RangeSetting.{RangeSetting}
 use Rattle.table.specs.declared.PrefixSetting.{PrefixSetting}
+use Rattle.table.specs.declared.Prefix6Setting.{Prefix6Setting}
 use Rattle.table.specs.declared.LinkSettings.{LinkSettings}
 use Rattle.table.specs.declared.Ipv4Settings.{Ipv4Settings}
+use Rattle.table.specs.declared.Ipv6Settings.{Ipv6Settings}
 use Rattle.table.specs.declared.TransportSettings.{TransportSettings}
 use Rattle.table.specs.declared.SomeipSettings.{SomeipSettings}
 use Rattle.table.specs.declared.RateSettings.{RateSettings}
@@ -63,6 +66,9 @@ rangeOr s = valueOr (record { low = 0; high = 0 }) (ofRange s)
 abbrev pub prefixOr : PrefixSetting → Prefix
 prefixOr s = valueOr (record { address = 0; length = 0 }) (ofPrefix s)
 
+abbrev pub prefix6Or : Prefix6Setting → Prefix6
+prefix6Or s = valueOr (record { address = record { high = 0; low = 0 }; length = 0 }) (ofPrefix6 s)
+
 -- the head word of a rule, and of each of its layers
 abbrev pub ruleFields : Rule → List (ℕ × ℕ)
 ruleFields r = (16, r .id) ∷ (8, actionCode (r .action)) ∷ []
@@ -75,13 +81,21 @@ linkFields s =
     ∷ (16, valueOr 0 (of16 (s .ether)))
     ∷ []
 
-abbrev pub ipFields : Ipv4Settings → List (ℕ × ℕ)
-ipFields s =
-    (8, marksOf (ipv4Unset s))
+-- of the IP layer IPv4's settings, and above them IPv6's
+abbrev pub ipv6Fields : Ipv6Settings → List (ℕ × ℕ)
+ipv6Fields z =
+    (8, prefix6Or (z .source) .length)
+    ∷ (8, prefix6Or (z .destination) .length)
+    ∷ (8, valueOr 0 (of8 (z .protocol)))
+    ∷ []
+
+abbrev pub ipFields : Ipv4Settings → Ipv6Settings → List (ℕ × ℕ)
+ipFields s z =
+    (8, marksOf (ipUnset s z))
     ∷ (8, prefixOr (s .source) .length)
     ∷ (8, prefixOr (s .destination) .length)
     ∷ (8, valueOr 0 (of8 (s .protocol)))
-    ∷ []
+    ∷ ipv6Fields z
 
 abbrev pub transportFields : TransportSettings → List (ℕ × ℕ)
 transportFields s = (8, marksOf (transportUnset s)) ∷ (8, kindOr (s .kind)) ∷ []

@@ -11,9 +11,11 @@ ghost use Rattle.fields.specs.Fields.{
   kindOr,
   rangeOr,
   prefixOr,
+  prefix6Or,
   ruleFields,
   linkFields,
   ipFields,
+  ipv6Fields,
   addressFields,
   transportFields,
   portFields,
@@ -21,7 +23,8 @@ ghost use Rattle.fields.specs.Fields.{
   rateFields,
   trackingFields,
 };
-ghost use Rattle.table.specs.Marks.{linkUnset, ipv4Unset, transportUnset, someipUnset, rateUnset, trackingUnset};
+ghost use Rattle.table.specs.Marks.{linkUnset, ipUnset, transportUnset, someipUnset, rateUnset, trackingUnset};
+use addresses::Wide;
 use table::settings::*;
 use table::words::*;
 use table::*;
@@ -126,6 +129,26 @@ fn prefix_value(s: PrefixSetting) -> Prefix
     }
 }
 
+fn prefix6_value(s: Prefix6Setting) -> Prefix6
+    ensures { λ r. ⌜ r ≡ prefix6Or s ⌝ }
+{
+    match s {
+        Prefix6Setting::Unset => Prefix6 {
+            address: Wide { high: 0, low: 0 },
+            length: 0,
+        },
+        Prefix6Setting::Set(v) => v,
+    }
+}
+
+// The address of an IPv6 prefix, whose two words stand in the row as they are.
+pub fn address6(s: Prefix6Setting) -> Wide
+    ensures { λ r. ⌜ r ≡ prefix6Or s .address ⌝ }
+{
+    let p = prefix6_value(s);
+    p.address
+}
+
 // The code of an action, and of a kind.
 pub fn action_code(a: Action) -> u64
     ensures value { λ r. ⌜ r ≡ actionCode a ⌝ }
@@ -176,15 +199,22 @@ fn link_marks(s: LinkSettings) -> u8
     )
 }
 
-fn ipv4_marks(s: Ipv4Settings) -> u8
-    ensures { λ r. ⌜ r ≡ marksOf (ipv4Unset s) ⌝ }
+fn ip_marks(s: Ipv4Settings, z: Ipv6Settings) -> u8
+    ensures { λ r. ⌜ r ≡ marksOf (ipUnset s z) ⌝ }
 {
     let source = s.source;
     let destination = s.destination;
     let protocol = s.protocol;
+    let source6 = z.source;
+    let destination6 = z.destination;
+    let protocol6 = z.protocol;
+    let m = mark(
+        unset_prefix6(source6),
+        mark(unset_prefix6(destination6), mark(unset8(protocol6), 0)),
+    );
     mark(
         unset_prefix(source),
-        mark(unset_prefix(destination), mark(unset8(protocol), 0)),
+        mark(unset_prefix(destination), mark(unset8(protocol), m)),
     )
 }
 
@@ -231,7 +261,7 @@ fn tracking_marks(s: TrackingSettings) -> u8
     mark(unset8(places), mark(unset32(limit), 0))
 }
 
-// The words of a row, but for the two MACs.
+// The words of a row, but for the MACs and the IPv6 addresses.
 pub fn rule_word(r: Rule) -> u64
     ensures { λ w. ⌜ Laid (ruleFields r) w ⌝ }
 {
@@ -249,16 +279,28 @@ pub fn link_word(s: LinkSettings) -> u64
     field8(link_marks(s), field16(value16(vlan), upper))
 }
 
-pub fn ip_word(s: Ipv4Settings) -> u64
-    ensures { λ w. ⌜ Laid (ipFields s) w ⌝ }
+pub fn ip_word(s: Ipv4Settings, z: Ipv6Settings) -> u64
+    ensures { λ w. ⌜ Laid (ipFields s z) w ⌝ }
 {
     let source = s.source;
     let destination = s.destination;
     let protocol = s.protocol;
     let a = prefix_value(source);
     let b = prefix_value(destination);
-    let upper = field8(b.length, field8(value8(protocol), 0));
-    field8(ipv4_marks(s), field8(a.length, upper))
+    let upper = field8(b.length, field8(value8(protocol), ipv6_half(z)));
+    field8(ip_marks(s, z), field8(a.length, upper))
+}
+
+// The upper half of the IP word.
+fn ipv6_half(z: Ipv6Settings) -> u64
+    ensures { λ w. ⌜ Laid (ipv6Fields z) w ⌝ }
+{
+    let source = z.source;
+    let destination = z.destination;
+    let protocol = z.protocol;
+    let a = prefix6_value(source);
+    let b = prefix6_value(destination);
+    field8(a.length, field8(b.length, field8(value8(protocol), 0)))
 }
 
 pub fn address_word(s: Ipv4Settings) -> u64

@@ -1,23 +1,23 @@
 -- Laws of good places in the words of the code's branches.
 -- Assumes nothing.
-use Prim.Native.Nat.{ℕ, _/_, _%_, _^_, _<_, _≤_}
+use Prim.Native.Nat.{ℕ, _+_, _*_, _/_, _%_, _^_, _<_, _≤_}
 use mathlib.Core.Path.{_≡_, refl, sym, ap, subst, _∙_}
 use mathlib.Core.Bool.{Bool, true, false, not, _&&_, _||_, false≢true}
 use mathlib.Core.List.{List, [], _∷_}
 use lib.ListN.{length, getD, List·getD-eq-default}
 use lib.Bits.{bitOr, or-add-and, and-le-l, and-le-r}
 use lib.Dec.{ltb, eqb}
-use native.Mathlib.Nat.{div-div-eq-div-mul}
 use native.Mathlib.Omega.{arith}
-use borrow.Author.Tests.{lt-ltb, le-ltb, ltb-true, eq-eqb, ne-eqb, eqb-true}
+use borrow.Author.Tests.{lt-ltb, le-ltb, ltb-true, eq-eqb, ne-eqb, eqb-true, not-true}
 use Rattle.numbers.specs.Lists.{every, allBelow}
 use Rattle.numbers.proofs.Lists.{and-both, and-true-true, every-at, below-at, below-all}
-use Rattle.places.specs.Places.{Place, free, isFree, placeOf, placesOf, holds}
-use Rattle.places.specs.Good.{isNothing, isIpv4, isPlain, isBlank, clean, isFresh, placeGood, eachGood, repeats, alone, once, placesTests}
+use Rattle.places.specs.Places.{Place, free, isFree, kindOf, placeOf, placesOf, holds}
+use Rattle.places.specs.Good.{isNothing, has32, fitsKind, isPlain, isZero, isBlank, clean, isFresh, placeGood, eachGood, repeats, alone, once, placesTests}
 use Rattle.places.specs.Good as laws
 use Rattle.places.specs.declared.Quad.{Quad}
-use Rattle.numbers.proofs.Tests.{by-test, by-less, or-first, or-second, or-rest, both-ways}
-use Rattle.places.proofs.PlaceLaws.{place-at}
+use Rattle.addresses.specs.declared.Wide.{Wide}
+use Rattle.numbers.proofs.Tests.{by-test, by-less, or-first, or-second, or-rest, or-zero, both-ways}
+use Rattle.places.proofs.PlaceLaws.{held-back, ports-back, place-at}
 use Rattle.places.proofs.HoldLaws.{free-holds}
 use Rattle.places.proofs.PlacesLaws.{at, once-single, PlacesGood, places-in, places-out}
 
@@ -36,86 +36,65 @@ held-plain : (f p b i y : Bool) → f ≡ false → i ≡ true → y ≡ true �
 held-plain f true b i y e d h = sym (rw (e, d, h))
 held-plain f false b i y e d h = refl
 
+and-swap : (a b c d : Bool) → ((a && b) && (c && d)) ≡ ((a && c) && (b && d))
+and-swap true true c d = refl
+and-swap true false true d = refl
+and-swap true false false d = refl
+and-swap false b c d = refl
+
 -- ---- one place
 
--- and none of both
+-- two words in one have no bit: none of both has
 or-none : (x y : ℕ) → bitOr x y ≡ 0 → (x ≡ 0) × (y ≡ 0)
 or-none x y z = (omega (arith, z, or-add-and x y, and-le-r x y), omega (arith, z, or-add-and x y, and-le-l x y))
 
-none-or : (x y : ℕ) → x ≡ 0 → y ≡ 0 → bitOr x y ≡ 0
-none-or x y a b = omega (arith, or-add-and x y)
+-- nothing stands above 32 bits
+no-more : (a : ℕ) → eqb (a / 2 ^ 32) 0 ≡ ltb a (2 ^ 32)
+no-more a =
+    both-ways (eqb (a / 2 ^ 32) 0) (ltb a (2 ^ 32)) (λ e. lt-ltb a (2 ^ 32) (omega (arith, eqb-true (a / 2 ^ 32) 0 e)))
+    (λ e. eq-eqb (a / 2 ^ 32) 0 (omega (arith, ltb-true a (2 ^ 32) e)))
 
-no-bits : (n : ℕ) → n % 2 ≡ 0 → n / 2 % 2 ≡ 0 → n % 4 ≡ 0
-no-bits n a b = omega arith
+-- both addresses, as the code looks at them
+both-32 : (a b : Wide) → eqb (bitOr (bitOr (a .high) (b .high)) (bitOr (a .low / 2 ^ 32) (b .low / 2 ^ 32))) 0 ≡ (has32 a && has32 b)
+both-32 a b =
+    rw (
+      or-zero (bitOr (a .high) (b .high)) (bitOr (a .low / 2 ^ 32) (b .low / 2 ^ 32)),
+      or-zero (a .high) (b .high),
+      or-zero (a .low / 2 ^ 32) (b .low / 2 ^ 32),
+      no-more (a .low),
+      no-more (b .low),
+    )
+    (and-swap (eqb (a .high) 0) (eqb (b .high) 0) (ltb (a .low) (2 ^ 32)) (ltb (b .low) (2 ^ 32)))
+
+zero-words : (a : Wide) → isZero a ≡ true → (a .high ≡ 0) × (a .low ≡ 0)
+zero-words a e =
+    let b = and-both (eqb (a .high) 0) (eqb (a .low) 0) e in
+    (eqb-true (a .high) 0 (b .0), eqb-true (a .low) 0 (b .1))
 
 module _ (w : List ℕ) where
   abbrev plain : Bool
   plain = isPlain (placeOf w)
 
-  -- what has no meaning yet, as the code looks at it
-  record Plain : Type 0 where
-    pub held : getD w 0 0 / 4 % 4 ≡ 0
-    pub expected : getD w 1 0 % 2 ^ 32 ≡ 0
-    pub sourceHigh : getD w 2 0 ≡ 0
-    pub destinationHigh : getD w 4 0 ≡ 0
-    pub source : getD w 3 0 / 2 ^ 32 ≡ 0
-    pub destination : getD w 5 0 / 2 ^ 32 ≡ 0
+  pub plain-socket : (getD w 0 0 / 8 % 2 ≡ 0 → ⊥) → false ≡ plain
+  plain-socket n = rw (ne-eqb (getD w 0 0 / 8 % 2) 0 n)
 
-  plain-in : plain ≡ true → Plain
-  plain-in e =
-      let a = and-both (isNothing (placeOf w .unused)) (isIpv4 (placeOf w .quad)) e in
-      let b = and-both (ltb (getD w 3 0) (2 ^ 32)) (ltb (getD w 5 0) (2 ^ 32)) (a .1) in
-      let k = eqb-true (getD w 0 0 / 4 % 2) 0 (every-at tests 0 (a .0)) in
-      let o = eqb-true (getD w 0 0 / 8 % 2) 0 (every-at tests 1 (a .0)) in
-      record {
-        held = no-bits (getD w 0 0 / 4) k (ap (λ (n : ℕ). n % 2) (div-div-eq-div-mul (getD w 0 0) 4 2) ∙ o);
-        expected = eqb-true (getD w 1 0 % 2 ^ 32) 0 (every-at tests 2 (a .0));
-        sourceHigh = eqb-true (getD w 2 0) 0 (every-at tests 3 (a .0));
-        destinationHigh = eqb-true (getD w 4 0) 0 (every-at tests 4 (a .0));
-        source = omega (arith, ltb-true (getD w 3 0) (2 ^ 32) (b .0));
-        destination = omega (arith, ltb-true (getD w 5 0) (2 ^ 32) (b .1));
-      }
-    where
-      tests : List Bool
-      tests =
-          eqb (getD w 0 0 / 4 % 2) 0
-          ∷ eqb (getD w 0 0 / 8 % 2) 0
-          ∷ eqb (getD w 1 0 % 2 ^ 32) 0
-          ∷ eqb (getD w 2 0) 0
-          ∷ eqb (getD w 4 0) 0
-          ∷ []
+  module _ (s : getD w 0 0 / 8 % 2 ≡ 0) where
+    pub plain-expected : (getD w 1 0 % 2 ^ 32 ≡ 0 → ⊥) → false ≡ plain
+    plain-expected n = rw (eq-eqb (getD w 0 0 / 8 % 2) 0 s, ne-eqb (getD w 1 0 % 2 ^ 32) 0 n)
 
-  plain-out : Plain → plain ≡ true
-  plain-out p =
-      let h = p .held in
-      let s = p .source in
-      let d = p .destination in
-      and-true-true
-      (and-true-true (eq-eqb (getD w 0 0 / 4 % 2) 0 (omega arith))
-      (and-true-true (eq-eqb (getD w 0 0 / 8 % 2) 0 (omega arith))
-      (and-true-true (eq-eqb (getD w 1 0 % 2 ^ 32) 0 (p .expected))
-      (and-true-true (eq-eqb (getD w 2 0) 0 (p .sourceHigh)) (and-true-true (eq-eqb (getD w 4 0) 0 (p .destinationHigh)) refl)))))
-      (and-true-true (lt-ltb (getD w 3 0) (2 ^ 32) (omega arith)) (lt-ltb (getD w 5 0) (2 ^ 32) (omega arith)))
+    module _ (x : getD w 1 0 % 2 ^ 32 ≡ 0) where
+      -- the kind decides whether the addresses are looked at
+      plain-kind : (k : Bool) → eqb (getD w 0 0 / 4 % 2) 1 ≡ k → plain ≡ (k || (has32 (placeOf w .quad .source) && has32 (placeOf w .quad .destination)))
+      plain-kind k e = rw (eq-eqb (getD w 0 0 / 8 % 2) 0 s, eq-eqb (getD w 1 0 % 2 ^ 32) 0 x, e)
 
-  pub plain-held : (getD w 0 0 / 4 % 4 ≡ 0 → ⊥) → false ≡ plain
-  plain-held n = by-test plain (λ e. absurd (n (plain-in e .held))) (λ e. sym e)
+      pub plain-ipv6 : getD w 0 0 / 4 % 2 ≡ 1 → true ≡ plain
+      plain-ipv6 k = sym (plain-kind true (eq-eqb (getD w 0 0 / 4 % 2) 1 k))
 
-  pub plain-expected : (getD w 1 0 % 2 ^ 32 ≡ 0 → ⊥) → false ≡ plain
-  plain-expected n = by-test plain (λ e. absurd (n (plain-in e .expected))) (λ e. sym e)
-
-  pub plain-words : getD w 0 0 / 4 % 4 ≡ 0 → getD w 1 0 % 2 ^ 32 ≡ 0
-      → eqb (bitOr (bitOr (getD w 2 0) (getD w 4 0)) (bitOr (getD w 3 0 / 2 ^ 32) (getD w 5 0 / 2 ^ 32))) 0 ≡ plain
-  plain-words h x =
-      both-ways (eqb (bitOr (bitOr (getD w 2 0) (getD w 4 0)) (bitOr (getD w 3 0 / 2 ^ 32) (getD w 5 0 / 2 ^ 32))) 0) plain
-      (λ e.
-      let a = or-none (bitOr (getD w 2 0) (getD w 4 0)) (bitOr (getD w 3 0 / 2 ^ 32) (getD w 5 0 / 2 ^ 32)) (eqb-true _ 0 e) in
-      let b = or-none (getD w 2 0) (getD w 4 0) (a .0) in
-      let c = or-none (getD w 3 0 / 2 ^ 32) (getD w 5 0 / 2 ^ 32) (a .1) in
-      plain-out (record { held = h; expected = x; sourceHigh = b .0; destinationHigh = b .1; source = c .0; destination = c .1 }))
-      (λ e.
-      let p = plain-in e in
-      eq-eqb (bitOr (bitOr (getD w 2 0) (getD w 4 0)) (bitOr (getD w 3 0 / 2 ^ 32) (getD w 5 0 / 2 ^ 32))) 0
-      (none-or _ _ (none-or _ _ (p .sourceHigh) (p .destinationHigh)) (none-or _ _ (p .source) (p .destination))))
+      pub plain-ipv4 : (getD w 0 0 / 4 % 2 ≡ 1 → ⊥)
+          → eqb (bitOr (bitOr (getD w 2 0) (getD w 4 0)) (bitOr (getD w 3 0 / 2 ^ 32) (getD w 5 0 / 2 ^ 32))) 0 ≡ plain
+      plain-ipv4 k =
+          both-32 (placeOf w .quad .source) (placeOf w .quad .destination)
+          ∙ sym (plain-kind false (ne-eqb (getD w 0 0 / 4 % 2) 1 k))
 
   -- as in a fresh record: six words are zero
   abbrev fresh : Bool
@@ -131,37 +110,37 @@ module _ (w : List ℕ) where
       let c = or-none _ (getD w 3 0) (b .0) in
       let d = or-none _ (getD w 2 0) (c .0) in
       let e = or-none (getD w 0 0) (getD w 1 0) (d .0) in
-      let x = e .0 in
-      let y = e .1 in
-      let s = c .1 in
-      let t = a .1 in
-      let p = plain-out (record { held = omega arith; expected = omega arith; sourceHigh = d .1; destinationHigh = b .1; source = omega arith; destination = omega arith }) in
-      and-true-true (eq-eqb (getD w 0 0 % 4) 0 (omega arith))
-      (and-true-true p
-      (or-second (not (isFree (placeOf w))) (isBlank (placeOf w))
-      (and-true-true (eq-eqb (getD w 3 0) 0 s)
-      (and-true-true (eq-eqb (getD w 5 0) 0 t)
-      (and-true-true (eq-eqb (getD w 1 0 / 2 ^ 32) 0 (omega arith)) (and-true-true (eq-eqb (getD w 0 0 / 16) 0 (omega arith)) refl))))))
+      λ i. isFresh (placeOf (e .0 i ∷ e .1 i ∷ d .1 i ∷ c .1 i ∷ b .1 i ∷ a .1 i ∷ []))
+
+  -- a word is zero where its parts are
+  held-zero : getD w 0 0 % 4 ≡ 0 → eqb (getD w 0 0 / 4 % 2) 1 ≡ false → getD w 0 0 / 8 % 2 ≡ 0 → getD w 0 0 / 16 ≡ 0 → getD w 0 0 ≡ 0
+  held-zero s k o a = sym (held-back (getD w 0 0)) ∙ (λ i. s i + 4 * kindOf (k i) + 8 * o i + 16 * a i)
+
+  ports-zero : getD w 1 0 % 2 ^ 32 ≡ 0 → getD w 1 0 / 2 ^ 32 ≡ 0 → getD w 1 0 ≡ 0
+  ports-zero x y = sym (ports-back (getD w 1 0)) ∙ (λ i. x i + 2 ^ 32 * y i)
 
   fresh-zero : fresh ≡ true → all ≡ 0
   fresh-zero h =
       let f = and-both (isFree (placeOf w)) (clean (placeOf w)) h in
       let d = and-both (isPlain (placeOf w)) (not (isFree (placeOf w)) || isBlank (placeOf w)) (f .1) in
-      let p = plain-in (d .0) in
+      let n = and-both (isNothing (placeOf w .unused)) (fitsKind (placeOf w .quad)) (d .0) .0 in
+      let u = and-both (eqb (getD w 0 0 / 8 % 2) 0) (eqb (getD w 1 0 % 2 ^ 32) 0) n in
       let b = or-rest (not (isFree (placeOf w))) (isBlank (placeOf w)) (d .1) (ap not (f .0)) in
-      let s = eqb-true (getD w 0 0 % 4) 0 (f .0) in
-      let k = p .held in
-      let x = p .expected in
-      let y = eqb-true (getD w 1 0 / 2 ^ 32) 0 (every-at blanks 2 b) in
-      let a = eqb-true (getD w 0 0 / 16) 0 (every-at blanks 3 b) in
-      none-or _ _
-      (none-or _ _
-      (none-or _ _ (none-or _ _ (none-or (getD w 0 0) (getD w 1 0) (omega arith) (omega arith)) (p .sourceHigh)) (eqb-true (getD w 3 0) 0 (every-at blanks 0 b)))
-      (p .destinationHigh))
-      (eqb-true (getD w 5 0) 0 (every-at blanks 1 b))
+      let s = zero-words (placeOf w .quad .source) (every-at blanks 1 b) in
+      let t = zero-words (placeOf w .quad .destination) (every-at blanks 2 b) in
+      let x =
+      held-zero (eqb-true _ 0 (f .0)) (not-true _ (every-at blanks 0 b)) (eqb-true _ 0 (u .0)) (eqb-true _ 0 (every-at blanks 4 b)) in
+      let y = ports-zero (eqb-true _ 0 (u .1)) (eqb-true _ 0 (every-at blanks 3 b)) in
+      λ i. bitOr (bitOr (bitOr (bitOr (bitOr (x i) (y i)) (s .0 i)) (s .1 i)) (t .0 i)) (t .1 i)
     where
       blanks : List Bool
-      blanks = eqb (getD w 3 0) 0 ∷ eqb (getD w 5 0) 0 ∷ eqb (getD w 1 0 / 2 ^ 32) 0 ∷ eqb (getD w 0 0 / 16) 0 ∷ []
+      blanks =
+          not (eqb (getD w 0 0 / 4 % 2) 1)
+          ∷ isZero (placeOf w .quad .source)
+          ∷ isZero (placeOf w .quad .destination)
+          ∷ eqb (getD w 1 0 / 2 ^ 32) 0
+          ∷ eqb (getD w 0 0 / 16) 0
+          ∷ []
 
   pub filled-words : eqb all 0 ≡ fresh
   filled-words = both-ways (eqb all 0) fresh (λ e. zero-fresh (eqb-true all 0 e)) (λ e. eq-eqb all 0 (fresh-zero e))

@@ -1,6 +1,6 @@
 -- Stamps of the places of one rule, by which most conversations are told apart at once: equal conversations have equal stamps.
 -- Assumes nothing.
-use Prim.Native.Nat.{ℕ, _*_, _%_, _^_, _<_}
+use Prim.Native.Nat.{ℕ, _*_, _/_, _%_, _^_, _<_}
 use mathlib.Core.Path.{_≡_}
 use mathlib.Core.Bool.{Bool, cond, not}
 use mathlib.Core.List.{List}
@@ -14,7 +14,11 @@ use Rattle.places.specs.declared.Quad.{Quad}
 
 -- the stamp of a conversation: of all that a sender can vary, in 64 bits
 unfoldable pub stampOf : Quad → ℕ
-stampOf q = bitXor (bitXor (q .source % 2 ^ 32 * 2 ^ 32) (q .destination % 2 ^ 48 * 2 ^ 16)) (q .ports)
+stampOf q =
+    bitXor
+    (bitXor (bitXor (q .source .low % 2 ^ 32 * 2 ^ 32) (q .destination .low % 2 ^ 48 * 2 ^ 16))
+    (bitXor (bitXor (q .source .high) (q .source .low / 2 ^ 32)) (q .destination .high)))
+    (q .ports)
 
 -- the stamp of the place at j: a free one has its number
 abbrev pub placeStamp : ℕ → Place → ℕ

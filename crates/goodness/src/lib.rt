@@ -27,15 +27,18 @@ fn filled(p: &PlaceWords) -> u64
     p[HELD] | p[BOTH_PORTS] | p[SOURCE_HIGH] | p[SOURCE] | p[DESTINATION_HIGH] | p[DESTINATION]
 }
 
-// Nothing that has no meaning yet, and addresses of 32 bits.
+// Nothing that has no meaning yet, and IPv4 addresses of 32 bits.
 fn is_plain(p: &PlaceWords) -> bool
     ensures { λ r. ⌜ r ≡ isPlain (placeOf (now (p .entry))) ⌝ }
 {
-    if p[HELD] / KIND_BIT % 4 != 0 {
+    if p[HELD] / SOCKET_BIT % 2 != 0 {
         return false;
     }
     if p[BOTH_PORTS] % HALF != 0 {
         return false;
+    }
+    if p[HELD] / KIND_BIT % 2 == 1 {
+        return true;
     }
     let high = p[SOURCE_HIGH] | p[DESTINATION_HIGH];
     let low = p[SOURCE] / HALF | p[DESTINATION] / HALF;

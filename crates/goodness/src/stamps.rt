@@ -10,7 +10,7 @@ use table::PLACES;
 
 pub(crate) type Stamps = [u64; PLACES];
 
-// 48 bits of the destination go in, 16 bits up.
+// 48 bits of the destination go in, 16 bits up. Of an IPv6 address all other bits go in too, where those of an IPv4 address are zero.
 const KEPT: u64 = 281474976710656;
 
 const LIFT: u64 = 65536;
@@ -21,7 +21,8 @@ fn stamp(p: &PlaceWords) -> u64
 {
     let source = p[SOURCE] % HALF * HALF;
     let destination = p[DESTINATION] % KEPT * LIFT;
-    source ^ destination ^ (p[BOTH_PORTS] / HALF)
+    let above = p[SOURCE_HIGH] ^ (p[SOURCE] / HALF) ^ p[DESTINATION_HIGH];
+    source ^ destination ^ above ^ (p[BOTH_PORTS] / HALF)
 }
 
 // A free place has its number, so that free places are not alike.

@@ -2,7 +2,7 @@
 -- Assumes nothing.
 use Prim.Native.Nat.{ℕ, _+_, _<_}
 use mathlib.Core.Path.{_≡_, ap, _∙_}
-use mathlib.Core.List.{List, [], _∷_, _++_, map, map-append}
+use mathlib.Core.List.{List, [], _∷_, map, map-append}
 use native.Mathlib.Numerals.{add-one}
 use native.Mathlib.Omega.{arith}
 use lib.ListN.{length, getD, set, take, drop}
@@ -10,7 +10,7 @@ use lib.Seq.{take-suc, take-suc-set, take-set-le, drop-set-lt, set-split, getD-s
 use Rattle.numbers.specs.Lists.{copies}
 use Rattle.table.specs.Table.{mostRules}
 use Rattle.table.specs.Words.{countsRow, stateRow, tableRows, ruleCountWord, stateCountWord, word, ruleIn, stateIn, tableIn}
-use Rattle.lay.specs.Layout.{LaidAs, ipv6Words, shapeWords, ruleWords, stateWords, countWords, tableWords}
+use Rattle.lay.specs.Layout.{LaidAs, shapeWords, ruleWords, stateWords, countWords, tableWords}
 use Rattle.table.specs.declared.Rule.{Rule}
 use Rattle.fields.proofs.Packing.{Held, rule-read}
 use Rattle.table.specs.declared.Table.{Table}
@@ -18,19 +18,20 @@ use Rattle.table.specs.declared.Table.{Table}
 -- ---- rules
 
 -- the words of a row, those that are not named being zero
-abbrev row : ℕ → ℕ → ℕ → ℕ → ℕ → ℕ → ℕ → ℕ → ℕ → ℕ → ℕ → List ℕ
-row w₀ w₁ w₂ w₃ w₄ w₅ w₁₀ w₁₁ w₁₂ w₁₃ w₁₄ =
-    w₀ ∷ w₁ ∷ w₂ ∷ w₃ ∷ w₄ ∷ w₅ ∷ copies ipv6Words 0 ++ (w₁₀ ∷ w₁₁ ∷ w₁₂ ∷ w₁₃ ∷ w₁₄ ∷ copies shapeWords 0)
+abbrev row : ℕ → ℕ → ℕ → ℕ → ℕ → ℕ → ℕ → ℕ → ℕ → ℕ → ℕ → ℕ → ℕ → ℕ → ℕ → List ℕ
+row w₀ w₁ w₂ w₃ w₄ w₅ w₆ w₇ w₈ w₉ w₁₀ w₁₁ w₁₂ w₁₃ w₁₄ =
+    w₀ ∷ w₁ ∷ w₂ ∷ w₃ ∷ w₄ ∷ w₅ ∷ w₆ ∷ w₇ ∷ w₈ ∷ w₉ ∷ w₁₀ ∷ w₁₁ ∷ w₁₂ ∷ w₁₃ ∷ w₁₄ ∷ copies shapeWords 0
 
 -- and they are the very ones
 pub rule-laid :
-    (r : Rule) {w₀ w₁ w₂ w₃ w₄ w₅ w₁₀ w₁₁ w₁₂ w₁₃ w₁₄ : ℕ}
-    → let w = row w₀ w₁ w₂ w₃ w₄ w₅ w₁₀ w₁₁ w₁₂ w₁₃ w₁₄ in Held r w → LaidAs ruleWords ruleIn r w
+    (r : Rule) {w₀ w₁ w₂ w₃ w₄ w₅ w₆ w₇ w₈ w₉ w₁₀ w₁₁ w₁₂ w₁₃ w₁₄ : ℕ}
+    → let w = row w₀ w₁ w₂ w₃ w₄ w₅ w₆ w₇ w₈ w₉ w₁₀ w₁₁ w₁₂ w₁₃ w₁₄ in Held r w → LaidAs ruleWords ruleIn r w
 unfolding ruleWords
 rule-laid r h = record {
   exact =
       λ i.
       row (h .rule .is i) (h .link .is i) (h .destination i) (h .source i) (h .ip .is i) (h .address .is i)
+      (h .source6 .high i) (h .source6 .low i) (h .destination6 .high i) (h .destination6 .low i)
       (h .transport .is i) (h .port .is i) (h .someip .is i) (h .rate .is i) (h .tracking .is i);
   back = rule-read r _ h;
 }

@@ -8,6 +8,7 @@ use Rattle.table.specs.Settings.{of64}
 use Rattle.fields.specs.Fields.{
   packed,
   valueOr,
+  prefix6Or,
   ruleFields,
   linkFields,
   ipFields,
@@ -28,10 +29,7 @@ pub record LaidAs {A B : Type 0} (words : A → B) (says : B → A) (x : A) (w :
   pub exact : w ≡ words x
   pub back : says w ≡ x
 
--- how many words of a rule's row have no meaning yet: those of IPv6 addresses, and those of a shape
-abbrev pub ipv6Words : ℕ
-ipv6Words = 4
-
+-- how many words of a rule's row have no meaning yet: those of a shape
 abbrev pub shapeWords : ℕ
 shapeWords = 9
 
@@ -42,15 +40,18 @@ ruleWords r =
     ∷ packed (linkFields (r .link))
     ∷ valueOr 0 (of64 (r .link .destination))
     ∷ valueOr 0 (of64 (r .link .source))
-    ∷ packed (ipFields (r .ipv4))
+    ∷ packed (ipFields (r .ipv4) (r .ipv6))
     ∷ packed (addressFields (r .ipv4))
-    ∷ copies ipv6Words 0
-    ++ (packed (transportFields (r .transport))
+    ∷ prefix6Or (r .ipv6 .source) .address .high
+    ∷ prefix6Or (r .ipv6 .source) .address .low
+    ∷ prefix6Or (r .ipv6 .destination) .address .high
+    ∷ prefix6Or (r .ipv6 .destination) .address .low
+    ∷ packed (transportFields (r .transport))
     ∷ packed (portFields (r .transport))
     ∷ packed (someipFields (r .someip))
     ∷ packed (rateFields (r .rate))
     ∷ packed (trackingFields (r .tracking))
-    ∷ copies shapeWords 0)
+    ∷ copies shapeWords 0
 
 -- the words of a state's row
 unfoldable pub stateWords : State → List ℕ

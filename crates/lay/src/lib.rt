@@ -7,6 +7,7 @@ ghost use Rattle.table.specs.Words.{stateRow, tableRows, ruleIn, stateIn, table
 ghost use Rattle.lay.specs.Layout.{LaidAs, ruleWords, stateWords, countWords, tableWords};
 use fields::action_code;
 use fields::address_word;
+use fields::address6;
 use fields::ip_word;
 use fields::link_word;
 use fields::port_word;
@@ -24,19 +25,28 @@ fn rule(r: Rule) -> RuleWords
 {
     let link = r.link;
     let ipv4 = r.ipv4;
+    let ipv6 = r.ipv6;
     let transport = r.transport;
     let someip = r.someip;
     let rate = r.rate;
     let tracking = r.tracking;
     let destination = link.destination;
     let source = link.source;
+    let destination6 = ipv6.destination;
+    let source6 = ipv6.source;
+    let from = address6(source6);
+    let to = address6(destination6);
     let mut w = [0; ROW_WORDS];
     w[RULE] = rule_word(r);
     w[LINK] = link_word(link);
     w[DESTINATION_MAC] = value64(destination);
     w[SOURCE_MAC] = value64(source);
-    w[IP] = ip_word(ipv4);
+    w[IP] = ip_word(ipv4, ipv6);
     w[ADDRESSES] = address_word(ipv4);
+    w[SOURCE6] = from.high;
+    w[SOURCE6 + 1] = from.low;
+    w[DESTINATION6] = to.high;
+    w[DESTINATION6 + 1] = to.low;
     w[TRANSPORT] = transport_word(transport);
     w[PORTS] = port_word(transport);
     w[SOMEIP] = someip_word(someip);

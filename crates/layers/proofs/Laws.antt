@@ -16,12 +16,13 @@ use Rattle.packets.proofs.Laws.{ip-inside}
 use Rattle.payloads.specs.Transport.{transportOf}
 use Rattle.payloads.specs.Someip.{someipOf}
 use Rattle.layers.specs.Layers.{least, most, layersOf, tooShort, tooLong, refusalNumber, shownOf}
-use Rattle.packets.specs.Inside.{TagInside, PacketInside, IpInside}
+use Rattle.packets.specs.Inside.{TagInside, PacketInside, Packet6Inside, IpInside}
 use Rattle.payloads.specs.Inside.{SegmentInside, DatagramInside, TransportInside, MessageInside, SomeipInside}
 use Rattle.layers.specs.Inside.{Inside}
 use Rattle.layers.specs.declared.FrameRefusal.the-variants as refusal
 use Rattle.packets.specs.declared.Link.{Link}
 use Rattle.packets.specs.declared.Packet.{Packet}
+use Rattle.packets.specs.declared.Packet6.{Packet6}
 use Rattle.packets.specs.declared.Ip.the-variants as ip
 use Rattle.payloads.specs.declared.Segment.{Segment}
 use Rattle.payloads.specs.declared.Datagram.{Datagram}
@@ -125,6 +126,9 @@ module _ (s : List ℕ) (l : Layers) (e : shownOf s ≡ shown.Shows l) where
 module _ (s : List ℕ) (l : Layers) (w : Inside s l) where
   pub packet-inside : (p : Packet) → l .ip ≡ ip.V4 p → PacketInside s p
   packet-inside p e = subst (IpInside s) e (w .ip)
+
+  pub packet6-inside : (p : Packet6) → l .ip ≡ ip.V6 p → Packet6Inside s p
+  packet6-inside p e = subst (IpInside s) e (w .ip)
 
   pub segment-inside : (t : Segment) → l .transport ≡ transport.Tcp t → SegmentInside s t
   segment-inside t e = subst (TransportInside s) e (w .transport)

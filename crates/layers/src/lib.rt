@@ -82,11 +82,16 @@ fn is_short(s: &[u8]) -> bool
 /// What a frame shows, for any product. Takes the frame's bytes, without their check sequence, and asks nothing of them. Answers a refusal
 /// or the layers, `Absent` for each that the frame lacks; it keeps nothing and changes nothing. Link and IP are types of
 /// `packets`, transport and SOME/IP of `payloads`, so a product names those too. Every offset in the answer counts from the frame's start and lies, with its length, inside the frame
-/// (specs/Inside here and in `packets`; laws `shows-inside`, `packet-inside` and its like of proofs/Laws). An IPv4 header's time to live, or 0:
+/// (specs/Inside here and in `packets`; laws `shows-inside`, `packet-inside` and its like of proofs/Laws). Of an IPv6 packet whose extension headers cannot be followed the chain says `Fails`, and no transport is shown.
+/// How many hops a packet may still make, 0 where there is none:
 ///
 ///     let Shown::Shows(shown) = layers::read(frame) else { return 0; };
 ///     let ip = shown.ip;
-///     match ip { packets::Ip::Absent => 0, packets::Ip::V4(packet) => frame[packet.header + 8] }
+///     match ip {
+///         packets::Ip::Absent => 0,
+///         packets::Ip::V4(packet) => frame[packet.header + 8],
+///         packets::Ip::V6(packet) => frame[packet.header + 7],
+///     }
 pub fn read(frame: &[u8]) -> Shown
     ensures { λ r. ⌜ r ≡ shownOf (now (frame .entry)) ⌝ }
 {

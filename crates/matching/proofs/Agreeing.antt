@@ -1,13 +1,15 @@
 -- A layer that is present matches where every setting agrees, since an unset one always does.
 -- Assumes nothing.
 use Prim.Native.Nat.{ℕ}
-use mathlib.Core.Path.{_≡_, refl, sym}
-use mathlib.Core.List.{List, [], _∷_}
-use mathlib.Core.Bool.{Bool, true, false, _||_, or-false, and-true}
+use mathlib.Core.Path.{_≡_, refl, sym, ap, _∙_}
+use mathlib.Core.List.{List, [], _∷_, _++_}
+use mathlib.Core.Bool.{Bool, true, false, _&&_, _||_, not, or-false, and-true, and-false}
+use borrow.Author.Tests.{not-true, not-false}
 use lib.Dec.{eqb}
 use Rattle.numbers.specs.Lists.{every}
-use Rattle.numbers.proofs.Lists.{and-both, and-true-true}
+use Rattle.numbers.proofs.Lists.{and-both, and-true-true, every-append}
 use Rattle.packets.specs.declared.Packet.{Packet}
+use Rattle.packets.specs.declared.Packet6.{Packet6}
 use Rattle.packets.specs.declared.Ip.{Ip}
 use Rattle.packets.specs.declared.Ip.the-variants as ip
 use Rattle.payloads.specs.declared.Segment.{Segment}
@@ -20,6 +22,7 @@ use Rattle.payloads.specs.declared.Someip.the-variants as someip
 use Rattle.table.specs.declared.Kind.{Kind}
 use Rattle.table.specs.declared.Kind.the-variants as kind
 use Rattle.table.specs.declared.Ipv4Settings.{Ipv4Settings}
+use Rattle.table.specs.declared.Ipv6Settings.{Ipv6Settings}
 use Rattle.table.specs.declared.TransportSettings.{TransportSettings}
 use Rattle.table.specs.declared.SomeipSettings.{SomeipSettings}
 use Rattle.table.specs.Settings.{
@@ -28,14 +31,16 @@ use Rattle.table.specs.Settings.{
   ofKind,
   ofRange,
   ofPrefix,
+  ofPrefix6,
   agrees,
   inRange,
   inPrefix,
+  inPrefix6,
   sameKind,
 }
 use Rattle.table.proofs.SettingLaws.{unset-agrees}
-use Rattle.table.specs.Marks.{ipv4Unset, transportUnset, someipUnset}
-use Rattle.matching.specs.Matching.{ipv4Agrees, ipv4Matches, portsAgree, transportMatches, messageAgrees, someipMatches}
+use Rattle.table.specs.Marks.{ipv4Unset, ipv6Unset, ipUnset, transportUnset, someipUnset}
+use Rattle.matching.specs.Matching.{ipv4Tests, numberAgrees, ipv6Tests, ipMatches, portsAgree, transportMatches, messageAgrees, someipMatches}
 
 -- each test of the first list that passes has its partner pass
 abbrev pub Partners : List Bool → List Bool → Type 0
@@ -64,22 +69,70 @@ present k l h = go (every k) refl
 pub absent : (k : List Bool) → every k ≡ (every k || false)
 absent k = sym (or-false (every k))
 
-pub ipv4-absent : (r : Ipv4Settings) (x : Ip) → x ≡ ip.Absent → every (ipv4Unset r) ≡ ipv4Matches r x
-unfolding ipv4Matches
-ipv4-absent r x e = rw e (absent (ipv4Unset r))
+-- ---- IP, in the words of the code: a and b are what it found of the settings of either kind
 
-pub ipv4-present : (r : Ipv4Settings) (x : Ip) (p : Packet) → x ≡ ip.V4 p → ipv4Agrees r (ip.V4 p) ≡ ipv4Matches r x
-unfolding ipv4Matches
-ipv4-present r x p e =
-    rw e
-    (present (ipv4Unset r)
-    (agrees inPrefix (ofPrefix (r .source)) (p .source)
-    ∷ agrees inPrefix (ofPrefix (r .destination)) (p .destination)
-    ∷ agrees eqb (of8 (r .protocol)) (p .protocol)
-    ∷ []) (
-      unset-agrees inPrefix (ofPrefix (r .source)) (p .source),
-      (unset-agrees inPrefix (ofPrefix (r .destination)) (p .destination), (unset-agrees eqb (of8 (r .protocol)) (p .protocol), tt)),
-    ))
+module _ (r : Ipv4Settings) (z : Ipv6Settings) (x : Ip) where
+  pub ip-absent :
+      {a b : Bool} → x ≡ ip.Absent → a ≡ every (ipv4Unset r) → b ≡ every (ipv6Unset z) → (a && b) ≡ ipMatches r z x
+  unfolding ipMatches
+  ip-absent e f g = rw (e, f, g) (sym (every-append (ipv4Unset r) (ipv6Unset z)) ∙ absent (ipUnset r z))
+
+  ip-v4 : (p : Packet) → x ≡ ip.V4 p → (every (ipv4Tests r p) && every (ipv6Unset z)) ≡ ipMatches r z x
+  unfolding ipMatches
+  ip-v4 p e =
+      rw e
+      (sym (every-append (ipv4Tests r p) (ipv6Unset z))
+      ∙ present (ipUnset r z) (ipv4Tests r p ++ ipv6Unset z) (
+        unset-agrees inPrefix (ofPrefix (r .source)) (p .source),
+        (
+          unset-agrees inPrefix (ofPrefix (r .destination)) (p .destination),
+          (unset-agrees eqb (of8 (r .protocol)) (p .protocol), (λ h. h, (λ h. h, (λ h. h, tt)))),
+        ),
+      ))
+
+  ip-v6 : (p : Packet6) → x ≡ ip.V6 p → (every (ipv4Unset r) && every (ipv6Tests z p)) ≡ ipMatches r z x
+  unfolding ipMatches
+  ip-v6 p e =
+      rw e
+      (sym (every-append (ipv4Unset r) (ipv6Tests z p))
+      ∙ present (ipUnset r z) (ipv4Unset r ++ ipv6Tests z p) (
+        λ h. h,
+        (
+          λ h. h,
+          (
+            λ h. h,
+            (
+              unset-agrees inPrefix6 (ofPrefix6 (z .source)) (p .source),
+              (
+                unset-agrees inPrefix6 (ofPrefix6 (z .destination)) (p .destination),
+                (unset-agrees numberAgrees (of8 (z .protocol)) (p .chain), tt),
+              ),
+            ),
+          ),
+        ),
+      ))
+
+  -- settings of the other kind stand
+  pub other6 : {b : Bool} (p : Packet) → x ≡ ip.V4 p → b ≡ every (ipv6Unset z) → not b ≡ true → false ≡ ipMatches r z x
+  other6 p e f h = sym (and-false (every (ipv4Tests r p))) ∙ ap (λ (t : Bool). every (ipv4Tests r p) && t) (sym (sym f ∙ not-true _ h)) ∙ ip-v4 p e
+
+  pub other4 : {b : Bool} (p : Packet6) → x ≡ ip.V6 p → b ≡ every (ipv4Unset r) → not b ≡ true → false ≡ ipMatches r z x
+  other4 p e f h = ap (λ (t : Bool). t && every (ipv6Tests z p)) (sym (sym f ∙ not-true _ h)) ∙ ip-v6 p e
+
+  -- none stands, and those of this kind tell, as they were read
+  pub own4 :
+      {b c : Bool} {s : Ipv4Settings} (p : Packet) → x ≡ ip.V4 p → b ≡ every (ipv6Unset z) → not b ≡ false → s ≡ r
+      → c ≡ every (ipv4Tests s p) → c ≡ ipMatches r z x
+  own4 p e f h k g =
+      g ∙ ap (λ (y : Ipv4Settings). every (ipv4Tests y p)) k ∙ sym (and-true (every (ipv4Tests r p)))
+      ∙ ap (λ (t : Bool). every (ipv4Tests r p) && t) (sym (sym f ∙ not-false _ h)) ∙ ip-v4 p e
+
+  pub own6 :
+      {b c : Bool} {s : Ipv6Settings} (p : Packet6) → x ≡ ip.V6 p → b ≡ every (ipv4Unset r) → not b ≡ false → s ≡ z
+      → c ≡ every (ipv6Tests s p) → c ≡ ipMatches r z x
+  own6 p e f h k g =
+      g ∙ ap (λ (y : Ipv6Settings). every (ipv6Tests y p)) k ∙ ap (λ (t : Bool). t && every (ipv6Tests z p)) (sym (sym f ∙ not-false _ h))
+      ∙ ip-v6 p e
 
 pub transport-absent : (r : TransportSettings) (x : Transport) → x ≡ transport.Absent → every (transportUnset r) ≡ transportMatches r x
 unfolding transportMatches

@@ -1,14 +1,18 @@
--- Does a layer match, and does a rule. Document 01, 'Rules and vehicle states'.
+-- Does a layer match, and does a rule. Document 01, 'Rules and vehicle states'; change request 2/12.
 -- s is the frame's bytes.
 -- Assumes nothing.
 use Prim.Native.Nat.{ℕ}
-use mathlib.Core.List.{List, [], _∷_}
+use mathlib.Core.List.{List, [], _∷_, _++_}
 use mathlib.Core.Bool.{Bool, false, _||_}
 use lib.Dec.{eqb}
 use Rattle.numbers.specs.Lists.{every, everyOf}
 use Rattle.packets.specs.declared.Tag.{Tag}
 use Rattle.packets.specs.declared.Tag.the-variants as tag
 use Rattle.packets.specs.declared.Link.{Link}
+use Rattle.packets.specs.declared.Packet.{Packet}
+use Rattle.packets.specs.declared.Packet6.{Packet6}
+use Rattle.packets.specs.declared.Chain.{Chain}
+use Rattle.packets.specs.declared.Chain.the-variants as chain
 use Rattle.packets.specs.declared.Ip.{Ip}
 use Rattle.packets.specs.declared.Ip.the-variants as ip
 use Rattle.payloads.specs.declared.Transport.{Transport}
@@ -21,10 +25,11 @@ use Rattle.table.specs.declared.Kind.{Kind}
 use Rattle.table.specs.declared.Kind.the-variants as kind
 use Rattle.table.specs.declared.LinkSettings.{LinkSettings}
 use Rattle.table.specs.declared.Ipv4Settings.{Ipv4Settings}
+use Rattle.table.specs.declared.Ipv6Settings.{Ipv6Settings}
 use Rattle.table.specs.declared.TransportSettings.{TransportSettings}
 use Rattle.table.specs.declared.SomeipSettings.{SomeipSettings}
 use Rattle.table.specs.declared.Rule.{Rule}
-use Rattle.table.specs.Marks.{ipv4Unset, transportUnset, someipUnset}
+use Rattle.table.specs.Marks.{ipv4Unset, ipv6Unset, ipUnset, transportUnset, someipUnset}
 use Rattle.table.specs.Settings.{
   of8,
   of16,
@@ -32,10 +37,12 @@ use Rattle.table.specs.Settings.{
   ofKind,
   ofRange,
   ofPrefix,
+  ofPrefix6,
   isUnset,
   agrees,
   inRange,
   inPrefix,
+  inPrefix6,
   sameKind,
 }
 
@@ -59,17 +66,33 @@ abbrev pub layerMatches : List Bool → Bool → Bool
 layerMatches unsets agree = every unsets || agree
 
 -- IPv4
-abbrev pub ipv4Agrees : Ipv4Settings → Ip → Bool
-ipv4Agrees r ip.Absent = false
-ipv4Agrees r (ip.V4 p) =
-    every
-    (agrees inPrefix (ofPrefix (r .source)) (p .source)
+abbrev pub ipv4Tests : Ipv4Settings → Packet → List Bool
+ipv4Tests r p =
+    agrees inPrefix (ofPrefix (r .source)) (p .source)
     ∷ agrees inPrefix (ofPrefix (r .destination)) (p .destination)
     ∷ agrees eqb (of8 (r .protocol)) (p .protocol)
-    ∷ [])
+    ∷ []
 
-unfoldable pub ipv4Matches : Ipv4Settings → Ip → Bool
-ipv4Matches r x = layerMatches (ipv4Unset r) (ipv4Agrees r x)
+-- 2/12: "An IPv6 protocol setting is compared with the number after the chain and agrees with nothing where the chain fails"
+abbrev pub numberAgrees : ℕ → Chain → Bool
+numberAgrees v chain.Fails = false
+numberAgrees v (chain.Ends n at len) = eqb v n
+
+abbrev pub ipv6Tests : Ipv6Settings → Packet6 → List Bool
+ipv6Tests z p =
+    agrees inPrefix6 (ofPrefix6 (z .source)) (p .source)
+    ∷ agrees inPrefix6 (ofPrefix6 (z .destination)) (p .destination)
+    ∷ agrees numberAgrees (of8 (z .protocol)) (p .chain)
+    ∷ []
+
+-- the IP layer of either kind: a setting of the other kind never agrees, as a VLAN setting never does with an untagged frame
+abbrev pub ipAgrees : Ipv4Settings → Ipv6Settings → Ip → Bool
+ipAgrees r z ip.Absent = false
+ipAgrees r z (ip.V4 p) = every (ipv4Tests r p ++ ipv6Unset z)
+ipAgrees r z (ip.V6 p) = every (ipv4Unset r ++ ipv6Tests z p)
+
+unfoldable pub ipMatches : Ipv4Settings → Ipv6Settings → Ip → Bool
+ipMatches r z x = layerMatches (ipUnset r z) (ipAgrees r z x)
 
 -- Transport
 abbrev pub portsAgree : TransportSettings → Kind → ℕ → ℕ → Bool
@@ -114,7 +137,7 @@ someipMatches r s x = layerMatches (someipUnset r) (messagesAgree r (messagesOf 
 unfoldable pub layerTests : Rule → Seen → List Bool
 layerTests r x =
     linkMatches (r .link) (x .layers .link)
-    ∷ ipv4Matches (r .ipv4) (x .layers .ip)
+    ∷ ipMatches (r .ipv4) (r .ipv6) (x .layers .ip)
     ∷ transportMatches (r .transport) (x .layers .transport)
     ∷ someipMatches (r .someip) (x .bytes) (x .layers .someip)
     ∷ []

@@ -1,7 +1,12 @@
 // Does one setting agree with what a frame shows?
 ghost use mathlib.Core.Path.{_≡_};
 ghost use lib.Dec.{eqb};
-ghost use Rattle.table.specs.Settings.{of8, of16, of64, ofKind, ofRange, ofPrefix, agrees, inRange, inPrefix, sameKind, prefixAgrees};
+ghost use Rattle.table.specs.Settings.{of8, of16, of64, ofKind, ofRange, ofPrefix, ofPrefix6, agrees, inRange, inPrefix, inPrefix6, sameKind};
+ghost use Rattle.matching.specs.Matching.{numberAgrees};
+use addresses::Wide;
+use addresses::prefix32_agrees;
+use addresses::prefix128_agrees;
+use packets::Chain;
 use table::*;
 
 pub(crate) fn agrees8(s: Setting8, x: u8) -> bool
@@ -62,25 +67,39 @@ pub(crate) fn agrees_range(s: RangeSetting, x: u16) -> bool
     }
 }
 
-// Only the leading bits are compared: the others are shifted out, and a shift by the whole width is left out.
-pub(crate) fn prefix_agrees(length: u8, a: u32, b: u32) -> bool
-    ensures { λ r. ⌜ r ≡ prefixAgrees 32 length a b ⌝ }
-{
-    if length == 0 {
-        return true;
-    }
-    if 32 <= length {
-        return a == b;
-    }
-    let k = 32 - length as u32;
-    (a >> k) == (b >> k)
-}
-
 pub(crate) fn agrees_prefix(s: PrefixSetting, x: u32) -> bool
     ensures { λ r. ⌜ r ≡ agrees inPrefix (ofPrefix s) x ⌝ }
 {
     match s {
         PrefixSetting::Unset => true,
-        PrefixSetting::Set(p) => prefix_agrees(p.length, p.address, x),
+        PrefixSetting::Set(p) => prefix32_agrees(p.length, p.address, x),
+    }
+}
+
+pub(crate) fn agrees_prefix6(s: Prefix6Setting, x: Wide) -> bool
+    ensures { λ r. ⌜ r ≡ agrees inPrefix6 (ofPrefix6 s) x ⌝ }
+{
+    match s {
+        Prefix6Setting::Unset => true,
+        Prefix6Setting::Set(p) => prefix128_agrees(p.length, p.address, x),
+    }
+}
+
+// With the number after the chain, and with nothing where the chain fails.
+fn number_agrees(v: u8, c: Chain) -> bool
+    ensures { λ r. ⌜ r ≡ numberAgrees v c ⌝ }
+{
+    match c {
+        Chain::Fails => false,
+        Chain::Ends { number, .. } => v == number,
+    }
+}
+
+pub(crate) fn agrees_number(s: Setting8, c: Chain) -> bool
+    ensures { λ r. ⌜ r ≡ agrees numberAgrees (of8 s) c ⌝ }
+{
+    match s {
+        Setting8::Unset => true,
+        Setting8::Set(v) => number_agrees(v, c),
     }
 }

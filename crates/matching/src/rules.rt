@@ -2,8 +2,8 @@
 ghost use mathlib.Core.Path.{_≡_};
 ghost use Rattle.numbers.specs.Lists.{every, leading};
 ghost use Rattle.layers.specs.Seen.{seen};
-ghost use Rattle.matching.specs.Matching.{tagTests, linkMatches, ipv4Matches, portsAgree, transportMatches, someipMatches, layerTests};
-ghost use Rattle.table.specs.Words.{ruleIn};
+ghost use Rattle.matching.specs.Matching.{tagTests, linkMatches, ipv4Tests, ipv6Tests, ipMatches, portsAgree, transportMatches, someipMatches, layerTests};
+ghost use Rattle.table.specs.Words.{ipv4In, ipv6In, ruleIn};
 use crate::agrees::*;
 use layers::Layers;
 use packets::*;
@@ -47,23 +47,54 @@ pub(crate) fn link_matches(r: LinkSettings, x: Link) -> bool
     tag_agrees(r, tag)
 }
 
-// Absent: no setting. Present: every setting agrees, and an unset one always does.
-pub(crate) fn ipv4_matches(r: Ipv4Settings, x: Ip) -> bool
-    ensures { λ g. ⌜ g ≡ ipv4Matches r x ⌝ }
+pub(crate) fn ipv4_agrees(r: Ipv4Settings, p: Packet) -> bool
+    ensures { λ g. ⌜ g ≡ every (ipv4Tests r p) ⌝ }
 {
     let source = r.source;
     let destination = r.destination;
     let protocol = r.protocol;
+    if !agrees_prefix(source, p.source) {
+        return false;
+    }
+    if !agrees_prefix(destination, p.destination) {
+        return false;
+    }
+    agrees8(protocol, p.protocol)
+}
+
+pub(crate) fn ipv6_agrees(r: Ipv6Settings, p: Packet6) -> bool
+    ensures { λ g. ⌜ g ≡ every (ipv6Tests r p) ⌝ }
+{
+    let source = r.source;
+    let destination = r.destination;
+    let protocol = r.protocol;
+    let chain = p.chain;
+    if !agrees_prefix6(source, p.source) {
+        return false;
+    }
+    if !agrees_prefix6(destination, p.destination) {
+        return false;
+    }
+    agrees_number(protocol, chain)
+}
+
+// Absent: no setting. Present: every setting agrees, an unset one always and one of the other kind never.
+pub(crate) fn ip_matches(r: &RuleWords, x: Ip) -> bool
+    ensures { λ g. ⌜ g ≡ ipMatches (ipv4In (now (r .entry))) (ipv6In (now (r .entry))) x ⌝ }
+{
     match x {
-        Ip::Absent => unset_prefix(source) & (unset_prefix(destination) & unset8(protocol)),
+        Ip::Absent => words::no_ipv4(r) & words::no_ipv6(r),
         Ip::V4(p) => {
-            if !agrees_prefix(source, p.source) {
+            if !words::no_ipv6(r) {
                 return false;
             }
-            if !agrees_prefix(destination, p.destination) {
+            ipv4_agrees(words::ipv4(r), p)
+        }
+        Ip::V6(p) => {
+            if !words::no_ipv4(r) {
                 return false;
             }
-            agrees8(protocol, p.protocol)
+            ipv6_agrees(words::ipv6(r), p)
         }
     }
 }
@@ -123,7 +154,7 @@ pub fn layers_matched(r: &RuleWords, s: &[u8], l: Layers) -> usize
     if !link_matches(words::link(r), l.link) {
         return 0;
     }
-    if !ipv4_matches(words::ipv4(r), ip) {
+    if !ip_matches(r, ip) {
         return 1;
     }
     if !transport_matches(words::transport(r), transport) {

@@ -7,9 +7,12 @@ use mathlib.Core.Bool.{true}
 use native.Mathlib.Omega.{arith}
 use lib.ListN.{length}
 use borrow.Author.Tests.{leb-true}
+use Rattle.numbers.specs.Bytes.{byte}
 use Rattle.numbers.proofs.Lists.{cond-both, every-at}
 use Rattle.packets.specs.Ip.{ipv4Bytes, leastWords, headerWords, headerLength, totalLength, ipv4Tests, ipv4Here, packetAt, ipOf}
+use Rattle.packets.specs.Ipv6.{ipv6Bytes, nextHeaderAt, payloadLength, ipv6Here, mostFollowed, packet6At}
 use Rattle.packets.specs.Inside.{IpInside}
+use Rattle.packets.proofs.OnIpv6.{ipv6-fits, chain-inside}
 
 -- ---- what a test that passed says of the lengths
 
@@ -38,7 +41,7 @@ ipv4-room s ether at e = let f = ipv4-fits s ether at e in (f .rest, f .header)
 -- ---- IP lies within the frame
 
 pub ip-inside : (s : List ℕ) (ether at : ℕ) → IpInside s (ipOf s ether at)
-unfolding ipOf packetAt
+unfolding ipOf packetAt packet6At
 ip-inside s ether at =
     cond-both (IpInside s) (ipv4Here s ether at) _ _
     (λ h.
@@ -47,4 +50,11 @@ ip-inside s ether at =
     let l = f .header in
     let t = f .total in
     record { words = omega arith; joined = refl; payload = omega arith })
-    (λ h. tt)
+    (λ h. cond-both (IpInside s) (ipv6Here s ether at) _ _
+    (λ g.
+    let f = ipv6-fits s ether at g in
+    record {
+      header = omega arith;
+      chain = chain-inside mostFollowed s (at + ipv6Bytes) (payloadLength s at) (byte s (at + nextHeaderAt)) f;
+    })
+    (λ g. tt))

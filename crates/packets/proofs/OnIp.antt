@@ -1,4 +1,4 @@
--- IPv4: each test of its definition, as a law that the proofs cite by what a branch knows.
+-- IPv4, and which kind is present: each test of its definition, as a law that the proofs cite by what a branch knows.
 -- Assumes nothing.
 use Prim.Native.Nat.{ℕ, _+_, _-_, _*_, _%_, _≤_, _<_}
 use mathlib.Core.Path.{_≡_}
@@ -24,6 +24,7 @@ use Rattle.packets.specs.Ip.{
   packetAt,
   ipOf,
 }
+use Rattle.packets.specs.Ipv6.{ipv6Here, packet6At}
 use Rattle.packets.specs.declared.Packet.{Packet}
 use Rattle.packets.specs.declared.Ip.the-variants as ip
 
@@ -90,6 +91,10 @@ module _ (s : List ℕ) (ether at : ℕ) where
   unfolding ipOf
   ip-v4 e = simp e
 
-  pub ip-absent : ipv4Here s ether at ≡ false → ip.Absent ≡ ipOf s ether at
+  pub ip-v6 : ipv4Here s ether at ≡ false → ipv6Here s ether at ≡ true → ip.V6 (packet6At s at) ≡ ipOf s ether at
   unfolding ipOf
-  ip-absent e = simp e
+  ip-v6 e f = simp (e, f)
+
+  pub ip-absent : ipv4Here s ether at ≡ false → ipv6Here s ether at ≡ false → ip.Absent ≡ ipOf s ether at
+  unfolding ipOf
+  ip-absent e f = simp (e, f)

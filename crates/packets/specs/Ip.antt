@@ -1,4 +1,4 @@
--- 01, "What a frame shows", IPv4: in the rest of the frame s that starts at `at`.
+-- 01, "What a frame shows", IPv4, and the IP layer of either kind: in the rest of the frame s that starts at `at`.
 -- Assumes nothing.
 use Prim.Native.Nat.{ℕ, _+_, _-_, _*_, _/_, _%_}
 use mathlib.Core.List.{List, [], _∷_}
@@ -7,6 +7,7 @@ use lib.ListN.{length}
 use lib.Dec.{leb, eqb}
 use Rattle.numbers.specs.Bytes.{byte, be16, be32, onesSum}
 use Rattle.numbers.specs.Lists.{every}
+use Rattle.packets.specs.Ipv6.{ipv6Here, packet6At}
 use Rattle.packets.specs.declared.Packet.{Packet}
 use Rattle.packets.specs.declared.Ip.{Ip}
 use Rattle.packets.specs.declared.Ip.the-variants as ip
@@ -76,6 +77,8 @@ packetAt s at =
       plen = totalLength s at - headerLength s at;
     }
 
--- the packet, where IPv4 is present
+-- the packet of the kind that is present. The ether type tells the two apart, so at most one is
 unfoldable pub ipOf : List ℕ → ℕ → ℕ → Ip
-ipOf s ether at = cond (ipv4Here s ether at) (ip.V4 (packetAt s at)) ip.Absent
+ipOf s ether at =
+    cond (ipv4Here s ether at) (ip.V4 (packetAt s at))
+    (cond (ipv6Here s ether at) (ip.V6 (packet6At s at)) ip.Absent)

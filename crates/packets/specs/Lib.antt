@@ -1,3 +1,4 @@
 pub mod Link
+pub mod Ipv6
 pub mod Ip
 pub mod Inside

@@ -1,8 +1,9 @@
-// IPv4: is it present in the rest of a frame, and what its header says.
+// IP: is a packet of either kind present in the rest of a frame; IPv4's header.
 ghost use mathlib.Core.Path.{_≡_};
 ghost use Prim.Native.Nat.{_+_, _≤_};
 ghost use lib.ListN.{length};
 ghost use Rattle.packets.specs.Ip.{ipv4Bytes, headerLength, totalLength, ipv4Here, packetAt, ipOf};
+use crate::ipv6_layer::*;
 use crate::*;
 use numbers::count8;
 use numbers::count16;
@@ -83,8 +84,10 @@ pub fn read_ip(s: &[u8], ether: u16, at: usize) -> Ip
     ensures { λ r. ⌜ r ≡ ipOf (now (s .entry)) ether at ⌝ }
 {
     if ipv4_here(s, ether, at) {
-        Ip::V4(packet_at(s, at))
-    } else {
-        Ip::Absent
+        return Ip::V4(packet_at(s, at));
     }
+    if ipv6_here(s, ether, at) {
+        return Ip::V6(packet6_at(s, at));
+    }
+    Ip::Absent
 }

@@ -1,6 +1,9 @@
 // The two lower layers of an Ethernet frame, link and IP. `layers` reads a whole frame by them.
 pub mod ip_layer;
+mod ipv6_layer;
 pub mod link_layer;
+
+use addresses::Wide;
 
 pub enum Tag {
     Untagged,
@@ -27,7 +30,26 @@ pub struct Packet {
     pub plen: usize,
 }
 
+// The extension headers of an IPv6 packet: the number after them, and where what follows them lies; or that following them fails.
+pub enum Chain {
+    Fails,
+    Ends {
+        number: u8,
+        payload: usize,
+        plen: usize,
+    },
+}
+
+// Its header has 40 bytes.
+pub struct Packet6 {
+    pub source: Wide,
+    pub destination: Wide,
+    pub header: usize,
+    pub chain: Chain,
+}
+
 pub enum Ip {
     Absent,
     V4(Packet),
+    V6(Packet6),
 }

@@ -32,6 +32,7 @@ rule10 = record {
   action = action.Allow;
   link = ethers 0x0800;
   ipv4 = record { source = setPrefix.Set (record { address = 0x0a000000; length = 8 }); destination = setPrefix.Unset; protocol = set8.Unset };
+  ipv6 = noRule .ipv6;
   transport = record { kind = setKind.Set kind.Udp; source = setRange.Unset; destination = range 30501 30501 };
   someip = record { service = set16.Set 0x1000; method = set16.Unset; version = set8.Unset; kind = set8.Set 0x80; code = set8.Unset };
   rate = noRule .rate;
@@ -45,6 +46,7 @@ rule20 = record {
   action = action.Allow;
   link = noRule .link;
   ipv4 = noRule .ipv4;
+  ipv6 = noRule .ipv6;
   transport = record { kind = setKind.Set kind.Tcp; source = range 443 443; destination = setRange.Unset };
   someip = noRule .someip;
   rate = noRule .rate;
@@ -58,6 +60,7 @@ rule30 = record {
   action = action.Allow;
   link = ethers 0x0806;
   ipv4 = noRule .ipv4;
+  ipv6 = noRule .ipv6;
   transport = noRule .transport;
   someip = noRule .someip;
   rate = record { size = set16.Set 2; refill = set16.Set 1 };
@@ -71,6 +74,7 @@ rule40 = record {
   action = action.Block;
   link = noRule .link;
   ipv4 = noRule .ipv4;
+  ipv6 = noRule .ipv6;
   transport = record { kind = setKind.Set kind.Udp; source = setRange.Unset; destination = range 0 1023 };
   someip = noRule .someip;
   rate = noRule .rate;

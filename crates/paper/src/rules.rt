@@ -18,6 +18,12 @@ const NO_IPV4: Ipv4Settings = Ipv4Settings {
     protocol: Setting8::Unset,
 };
 
+const NO_IPV6: Ipv6Settings = Ipv6Settings {
+    source: Prefix6Setting::Unset,
+    destination: Prefix6Setting::Unset,
+    protocol: Setting8::Unset,
+};
+
 const NO_TRANSPORT: TransportSettings = TransportSettings {
     kind: KindSetting::Unset,
     source: RangeSetting::Unset,
@@ -47,6 +53,7 @@ const NO_RULE: Rule = Rule {
     action: Action::Allow,
     link: NO_LINK,
     ipv4: NO_IPV4,
+    ipv6: NO_IPV6,
     transport: NO_TRANSPORT,
     someip: NO_SOMEIP,
     rate: NO_RATE,
@@ -82,6 +89,7 @@ fn rule10() -> Rule
             }),
             ..NO_IPV4
         },
+        ipv6: NO_IPV6,
         transport: TransportSettings {
             kind: KindSetting::Set(Kind::Udp),
             destination: RangeSetting::Set(Range {
@@ -109,6 +117,7 @@ fn rule20() -> Rule
         action: Action::Allow,
         link: NO_LINK,
         ipv4: NO_IPV4,
+        ipv6: NO_IPV6,
         transport: TransportSettings {
             kind: KindSetting::Set(Kind::Tcp),
             source: RangeSetting::Set(Range {
@@ -138,6 +147,7 @@ fn rule30() -> Rule
             ..NO_LINK
         },
         ipv4: NO_IPV4,
+        ipv6: NO_IPV6,
         transport: NO_TRANSPORT,
         someip: NO_SOMEIP,
         rate: RateSettings {
@@ -157,6 +167,7 @@ fn rule40() -> Rule
         action: Action::Block,
         link: NO_LINK,
         ipv4: NO_IPV4,
+        ipv6: NO_IPV6,
         transport: TransportSettings {
             kind: KindSetting::Set(Kind::Udp),
             destination: RangeSetting::Set(Range { low: 0, high: 1023 }),

@@ -21,11 +21,14 @@ use Rattle.payloads.specs.Transport.{
   segmentAt,
   datagramAt,
   transportAt,
+  transportAfter,
   transportOf,
 }
 use Rattle.payloads.specs.Someip.{someipBytes, someipTests, someipHere, messageAt, someipAt, someipOf}
-use Rattle.packets.specs.Inside.{IpInside}
+use Rattle.packets.specs.Inside.{ChainInside, IpInside}
 use Rattle.payloads.specs.Inside.{TransportInside, SomeipInside}
+use Rattle.packets.specs.declared.Chain.{Chain}
+use Rattle.packets.specs.declared.Chain.the-variants as chain
 use Rattle.packets.specs.declared.Ip.{Ip}
 use Rattle.packets.specs.declared.Ip.the-variants as ip
 use Rattle.payloads.specs.declared.Transport.{Transport}
@@ -65,6 +68,10 @@ at-inside s protocol at len b =
     record { joined = refl; payload = omega arith })
     (λ k. tt))
 
+after-inside : (s : List ℕ) (c : Chain) → ChainInside s c → TransportInside s (transportAfter s c)
+after-inside s chain.Fails w = tt
+after-inside s (chain.Ends n at len) w = at-inside s n at len w
+
 pub transport-inside : (s : List ℕ) (i : Ip) → IpInside s i → TransportInside s (transportOf s i)
 unfolding transportOf
 transport-inside s ip.Absent w = tt
@@ -72,6 +79,7 @@ transport-inside s (ip.V4 p) w =
     cond-both (TransportInside s) (unfragmented s (p .header)) _ _
     (λ h. at-inside s (p .protocol) (p .payload) (p .plen) (w .payload))
     (λ h. tt)
+transport-inside s (ip.V6 p) w = after-inside s (p .chain) (w .chain)
 
 pub someip-inside : (s : List ℕ) (t : Transport) → TransportInside s t → SomeipInside s (someipOf s t)
 unfolding someipOf someipAt messageAt

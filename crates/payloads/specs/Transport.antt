@@ -1,4 +1,4 @@
--- 01, "What a frame shows", Transport: in the IP payload of len bytes from `at` on, in the frame s.
+-- 01, "What a frame shows", Transport; change request 2/12. TCP and UDP are said once for both kinds of IP, over what follows: len bytes from `at` on, in the frame s.
 -- Assumes nothing.
 use Prim.Native.Nat.{ℕ, _+_, _-_, _*_, _/_, _%_}
 use mathlib.Core.List.{List, [], _∷_}
@@ -6,6 +6,8 @@ use mathlib.Core.Bool.{Bool, cond, _&&_}
 use lib.Dec.{leb, eqb}
 use Rattle.numbers.specs.Bytes.{byte, be16}
 use Rattle.numbers.specs.Lists.{every}
+use Rattle.packets.specs.declared.Chain.{Chain}
+use Rattle.packets.specs.declared.Chain.the-variants as chain
 use Rattle.packets.specs.declared.Ip.{Ip}
 use Rattle.packets.specs.declared.Ip.the-variants as ip
 use Rattle.payloads.specs.declared.Segment.{Segment}
@@ -131,8 +133,14 @@ transportAt s protocol at len =
     cond (tcpHere s protocol at len) (transport.Tcp (segmentAt s at))
     (cond (udpHere s protocol at len) (transport.Udp (datagramAt s at len)) transport.Absent)
 
--- "Transport is present if IPv4 is, more-fragments is clear, the fragment offset is 0, and .."
+-- 2/12: "transport lengths are measured in what follows the chain"; where the chain fails, "leaving the transport absent"
+abbrev pub transportAfter : List ℕ → Chain → Transport
+transportAfter s chain.Fails = transport.Absent
+transportAfter s (chain.Ends n at len) = transportAt s n at len
+
+-- "Transport is present if IPv4 is, more-fragments is clear, the fragment offset is 0, and ..", or if IPv6 is and ..
 unfoldable pub transportOf : List ℕ → Ip → Transport
 transportOf s ip.Absent = transport.Absent
 transportOf s (ip.V4 p) =
     cond (unfragmented s (p .header)) (transportAt s (p .protocol) (p .payload) (p .plen)) transport.Absent
+transportOf s (ip.V6 p) = transportAfter s (p .chain)

@@ -1,14 +1,15 @@
-// The transport: is TCP or UDP present in a packet's payload, and what its header says.
+// The transport: is TCP or UDP present in what a packet of either kind carries, and what its header says.
 ghost use mathlib.Core.Path.{_≡_};
 ghost use Prim.Native.Nat.{_+_, _≤_};
 ghost use lib.ListN.{length};
 ghost use Rattle.packets.specs.Ip.{ipv4Bytes};
-ghost use Rattle.payloads.specs.Transport.{tcpBytes, udpBytes, unfragmented, tcpHere, udpHere, segmentAt, datagramAt, transportAt, transportOf};
-ghost use Rattle.packets.specs.Inside.{PacketInside, IpInside};
+ghost use Rattle.payloads.specs.Transport.{tcpBytes, udpBytes, unfragmented, tcpHere, udpHere, segmentAt, datagramAt, transportAt, transportAfter, transportOf};
+ghost use Rattle.packets.specs.Inside.{PacketInside, ChainInside, IpInside};
 use crate::*;
 use numbers::count8;
 use numbers::count16;
 use numbers::read16;
+use packets::Chain;
 use packets::Ip;
 use packets::Packet;
 
@@ -145,6 +146,21 @@ fn transport_in(s: &[u8], p: Packet) -> Transport
     }
 }
 
+// What follows a chain of extension headers, unless the chain fails.
+fn transport_after(s: &[u8], c: Chain) -> Transport
+    requires { ⌜ ChainInside (now s) c ⌝ }
+    ensures { λ r. ⌜ r ≡ transportAfter (now (s .entry)) c ⌝ }
+{
+    match c {
+        Chain::Fails => Transport::Absent,
+        Chain::Ends {
+            number,
+            payload,
+            plen,
+        } => transport_at(s, number, payload, plen),
+    }
+}
+
 pub fn read_transport(s: &[u8], i: Ip) -> Transport
     requires { ⌜ IpInside (now s) i ⌝ }
     ensures { λ r. ⌜ r ≡ transportOf (now (s .entry)) i ⌝ }
@@ -152,5 +168,9 @@ pub fn read_transport(s: &[u8], i: Ip) -> Transport
     match i {
         Ip::Absent => Transport::Absent,
         Ip::V4(p) => transport_in(s, p),
+        Ip::V6(p) => {
+            let chain = p.chain;
+            transport_after(s, chain)
+        }
     }
 }

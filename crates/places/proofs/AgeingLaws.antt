@@ -45,7 +45,7 @@ module _ (limit e : ℕ) (p : Place) where
   aged-fits : Fits p → Fits (agedPlace limit e p)
   aged-fits h =
       aged-by Fits (λ f. h)
-      (λ f m. record { state = h .state; kind = h .kind; socket = h .socket; expected = h .expected })
+      (λ f m. record { state = h .state; socket = h .socket; expected = h .expected })
       free-fits
 
 place-zero : (limit : ℕ) (p : Place) → young limit p ≡ true → agedPlace limit 0 p ≡ p

@@ -2,26 +2,42 @@
 -- Assumes nothing.
 use Prim.Native.Nat.{ℕ, _+_, _*_, _/_, _%_, _^_, _≤_}
 use native.Mathlib.Omega.{arith}
-use mathlib.Core.Path.{_≡_, refl, ap₂, _∙_}
-use mathlib.Core.Bool.{true}
+use mathlib.Core.Path.{_≡_, refl, ap, ap₂, _∙_}
+use mathlib.Core.Bool.{Bool, true, false}
 use mathlib.Core.List.{List, [], _∷_}
 use lib.ListN.{getD, set, List·getD-map}
-use Rattle.places.specs.Places.{Place, free, ipv4Quad, placeOf, placesOf, placeWords, placesWords, Fits, ShapedPlace, phaseWord}
+use Rattle.places.specs.Places.{Place, free, ipv4Quad, ipv6Quad, kindOf, placeOf, placesOf, placeWords, placesWords, Fits, ShapedPlace, phaseWord}
 use Rattle.numbers.specs.Lists.{All}
 use Rattle.places.specs.Ageing.{withAge}
 use Rattle.flags.specs.declared.Phase.{Phase}
 use Rattle.flags.specs.declared.Phase.the-variants as phase
-use Rattle.places.specs.Good.{isIpv4}
+use Rattle.places.specs.Good.{has32, fitsKind}
+use Rattle.addresses.specs.Addresses.{low32}
+use Rattle.addresses.specs.declared.Wide.{Wide}
 use Rattle.numbers.proofs.Elements.{row-back, map-back}
-use Rattle.numbers.proofs.Lists.{and-true-true}
+use Rattle.numbers.proofs.Lists.{and-true-true, flag-le}
+use Rattle.numbers.proofs.Tests.{by-less}
 use borrow.Author.Tests.{lt-ltb}
+use lib.Dec.{eqb}
+
+-- ---- the kind and its number
+
+-- a bit is the number of the kind that it says
+kind-number : (n : ℕ) → kindOf (eqb (n % 2) 1) ≡ n % 2
+kind-number n =
+    by-less (n % 2) 1 (λ h. let z : n % 2 ≡ 0 = omega arith in rw z) (λ h. let z : n % 2 ≡ 1 = omega arith in rw z)
+
+-- and the kind is read from its number
+kind-back : (ipv6 : Bool) → eqb (kindOf ipv6) 1 ≡ ipv6
+kind-back true = refl
+kind-back false = refl
 
 -- ---- from words and back
 
-held-back : (n : ℕ) → n % 4 + 4 * (n / 4 % 2) + 8 * (n / 8 % 2) + 16 * (n / 16) ≡ n
-held-back n = omega arith
+pub held-back : (n : ℕ) → n % 4 + 4 * kindOf (eqb (n / 4 % 2) 1) + 8 * (n / 8 % 2) + 16 * (n / 16) ≡ n
+held-back n = omega (arith, kind-number (n / 4))
 
-ports-back : (n : ℕ) → n % 2 ^ 32 + 2 ^ 32 * (n / 2 ^ 32) ≡ n
+pub ports-back : (n : ℕ) → n % 2 ^ 32 + 2 ^ 32 * (n / 2 ^ 32) ≡ n
 ports-back n = omega arith
 
 -- every six words are those of the place that they say
@@ -37,28 +53,31 @@ places-back ps h = map-back placeOf placeWords ShapedPlace place-back ps h
 pub place-same : (p : Place) → Fits p → placeOf (placeWords p) ≡ p
 place-same p h = λ i. record {
   state = state i;
-  quad = record { source = p .quad .source; destination = p .quad .destination; ports = ports i };
+  quad = record { ipv6 = ipv6 i; source = p .quad .source; destination = p .quad .destination; ports = ports i };
   age = age i;
-  unused = record {
-    kind = kind i;
-    socket = socket i;
-    expected = expected i;
-    sourceHigh = p .unused .sourceHigh;
-    destinationHigh = p .unused .destinationHigh;
-  };
+  unused = record { socket = socket i; expected = expected i };
 }
   where
-    state : (p .state + 4 * p .unused .kind + 8 * p .unused .socket + 16 * p .age) % 4 ≡ p .state
+    k : ℕ
+    k = kindOf (p .quad .ipv6)
+
+    most : k ≤ 1
+    most = flag-le (p .quad .ipv6)
+
+    state : (p .state + 4 * k + 8 * p .unused .socket + 16 * p .age) % 4 ≡ p .state
     state = let a = h .state in omega arith
 
-    kind : (p .state + 4 * p .unused .kind + 8 * p .unused .socket + 16 * p .age) / 4 % 2 ≡ p .unused .kind
-    kind = let a = h .state in let b = h .kind in omega arith
+    kind : (p .state + 4 * k + 8 * p .unused .socket + 16 * p .age) / 4 % 2 ≡ k
+    kind = let a = h .state in let b = most in omega arith
 
-    socket : (p .state + 4 * p .unused .kind + 8 * p .unused .socket + 16 * p .age) / 8 % 2 ≡ p .unused .socket
-    socket = let a = h .state in let b = h .kind in let c = h .socket in omega arith
+    ipv6 : eqb ((p .state + 4 * k + 8 * p .unused .socket + 16 * p .age) / 4 % 2) 1 ≡ p .quad .ipv6
+    ipv6 = ap (λ (n : ℕ). eqb n 1) kind ∙ kind-back (p .quad .ipv6)
 
-    age : (p .state + 4 * p .unused .kind + 8 * p .unused .socket + 16 * p .age) / 16 ≡ p .age
-    age = let a = h .state in let b = h .kind in let c = h .socket in omega arith
+    socket : (p .state + 4 * k + 8 * p .unused .socket + 16 * p .age) / 8 % 2 ≡ p .unused .socket
+    socket = let a = h .state in let b = most in let c = h .socket in omega arith
+
+    age : (p .state + 4 * k + 8 * p .unused .socket + 16 * p .age) / 16 ≡ p .age
+    age = let a = h .state in let b = most in let c = h .socket in omega arith
 
     expected : (p .unused .expected + 2 ^ 32 * p .quad .ports) % 2 ^ 32 ≡ p .unused .expected
     expected = let a = h .expected in omega arith
@@ -72,14 +91,14 @@ places-same (p ∷ ps) h = ap₂ _∷_ (place-same p (h .0)) (places-same ps (h 
 
 -- what words say fits into words
 pub words-fit : (w : List ℕ) → Fits (placeOf w)
-words-fit w = record { state = omega arith; kind = omega arith; socket = omega arith; expected = omega arith }
+words-fit w = record { state = omega arith; socket = omega arith; expected = omega arith }
 
 pub places-fit : (ps : List (List ℕ)) → All Fits (placesOf ps)
 places-fit [] = tt
 places-fit (w ∷ ps) = (words-fit w, places-fit ps)
 
 pub free-fits : Fits free
-free-fits = record { state = omega arith; kind = omega arith; socket = omega arith; expected = omega arith }
+free-fits = record { state = omega arith; socket = omega arith; expected = omega arith }
 
 -- ---- words that the code reads and writes
 
@@ -92,15 +111,14 @@ pub age-set : (w : List ℕ) (e : ℕ) → ShapedPlace w → placeOf (set w 0 (g
 age-set [] e n = absurd (omega arith)
 age-set (x ∷ w) e n = λ i. record {
   state = state i;
-  quad = placeOf (x ∷ w) .quad;
-  age = age i;
-  unused = record {
-    kind = kind i;
-    socket = socket i;
-    expected = placeOf (x ∷ w) .unused .expected;
-    sourceHigh = placeOf (x ∷ w) .unused .sourceHigh;
-    destinationHigh = placeOf (x ∷ w) .unused .destinationHigh;
+  quad = record {
+    ipv6 = eqb (kind i) 1;
+    source = placeOf (x ∷ w) .quad .source;
+    destination = placeOf (x ∷ w) .quad .destination;
+    ports = placeOf (x ∷ w) .quad .ports;
   };
+  age = age i;
+  unused = record { socket = socket i; expected = placeOf (x ∷ w) .unused .expected };
 }
   where
     state : (x + 16 * e) % 4 ≡ x % 4
@@ -115,9 +133,16 @@ age-set (x ∷ w) e n = λ i. record {
     age : (x + 16 * e) / 16 ≡ x / 16 + e
     age = omega arith
 
--- 32 bits of an address are an IPv4 address
-pub quad-ipv4 : (s d ports : ℕ) → isIpv4 (ipv4Quad s d ports) ≡ true
-quad-ipv4 s d ports = and-true-true (lt-ltb (s % 2 ^ 32) (2 ^ 32) (omega arith)) (lt-ltb (d % 2 ^ 32) (2 ^ 32) (omega arith))
+-- ---- the addresses of a conversation are of its kind
+
+low-has32 : (a : ℕ) → has32 (low32 a) ≡ true
+low-has32 a = lt-ltb (a % 2 ^ 32) (2 ^ 32) (omega arith)
+
+pub quad-ipv4 : (s d ports : ℕ) → fitsKind (ipv4Quad s d ports) ≡ true
+quad-ipv4 s d ports = and-true-true (low-has32 s) (low-has32 d)
+
+pub quad-ipv6 : (s d : Wide) (ports : ℕ) → fitsKind (ipv6Quad s d ports) ≡ true
+quad-ipv6 s d ports = refl
 
 -- three phases
 pub phase-most : (f : Phase) → phaseWord f ≤ 3

@@ -180,6 +180,6 @@ phase-held q phase.Running = refl
 phase-held q phase.Closing = refl
 
 pub held-fits : (q : Quad) (f : Phase) → Fits (heldAs q f)
-held-fits q phase.Opening = record { state = omega arith; kind = omega arith; socket = omega arith; expected = omega arith }
-held-fits q phase.Running = record { state = omega arith; kind = omega arith; socket = omega arith; expected = omega arith }
-held-fits q phase.Closing = record { state = omega arith; kind = omega arith; socket = omega arith; expected = omega arith }
+held-fits q phase.Opening = record { state = omega arith; socket = omega arith; expected = omega arith }
+held-fits q phase.Running = record { state = omega arith; socket = omega arith; expected = omega arith }
+held-fits q phase.Closing = record { state = omega arith; socket = omega arith; expected = omega arith }

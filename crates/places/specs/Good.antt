@@ -11,6 +11,7 @@ use Rattle.table.specs.declared.Tracking.the-variants as tracking
 use Rattle.places.specs.Places.{Unused, Place, free, isFree, placesOf, holds}
 use Rattle.table.specs.Table.{mostPlaces}
 use Rattle.places.specs.declared.Quad.{Quad}
+use Rattle.addresses.specs.declared.Wide.{Wide}
 
 -- the places of a rule: none without tracking
 abbrev pub placesIn : Tracking → ℕ
@@ -40,28 +41,34 @@ young limit p = isFree p || ltb (p .age) limit
 
 -- what has no meaning yet is zero
 abbrev pub isNothing : Unused → Bool
-isNothing u =
-    every
-    (eqb (u .kind) 0
-    ∷ eqb (u .socket) 0
-    ∷ eqb (u .expected) 0
-    ∷ eqb (u .sourceHigh) 0
-    ∷ eqb (u .destinationHigh) 0
-    ∷ [])
+isNothing u = eqb (u .socket) 0 && eqb (u .expected) 0
 
--- the addresses have 32 bits
-abbrev pub isIpv4 : Quad → Bool
-isIpv4 q = ltb (q .source) (2 ^ 32) && ltb (q .destination) (2 ^ 32)
+-- an IPv4 address has 32 bits, and what stands above them is zero
+abbrev pub has32 : Wide → Bool
+has32 a = eqb (a .high) 0 && ltb (a .low) (2 ^ 32)
 
--- what words say of a held place as of a free one: nothing without a meaning, and IPv4 addresses
+abbrev pub fitsKind : Quad → Bool
+fitsKind q = q .ipv6 || (has32 (q .source) && has32 (q .destination))
+
+-- what words say of a held place as of a free one: nothing without a meaning, and addresses of their kind
 abbrev pub isPlain : Place → Bool
-isPlain p = isNothing (p .unused) && isIpv4 (p .quad)
+isPlain p = isNothing (p .unused) && fitsKind (p .quad)
 
 -- the conversation and the age that a free place has in a fresh record
-abbrev pub isBlank : Place → Bool
-isBlank p = every (eqb (p .quad .source) 0 ∷ eqb (p .quad .destination) 0 ∷ eqb (p .quad .ports) 0 ∷ eqb (p .age) 0 ∷ [])
+abbrev pub isZero : Wide → Bool
+isZero a = eqb (a .high) 0 && eqb (a .low) 0
 
--- words that are a record: nothing without a meaning, IPv4 addresses, and "a freed place is as in a fresh record"
+abbrev pub isBlank : Place → Bool
+isBlank p =
+    every
+    (not (p .quad .ipv6)
+    ∷ isZero (p .quad .source)
+    ∷ isZero (p .quad .destination)
+    ∷ eqb (p .quad .ports) 0
+    ∷ eqb (p .age) 0
+    ∷ [])
+
+-- words that are a record: nothing without a meaning, addresses of their kind, and "a freed place is as in a fresh record"
 abbrev pub clean : Place → Bool
 clean p = isPlain p && (not (isFree p) || isBlank p)
 

@@ -2,11 +2,14 @@
 -- Assumes nothing.
 use Prim.Native.Nat.{ℕ, _+_, _*_, _/_, _%_, _^_, _<_}
 use mathlib.Core.Path.{_≡_}
-use mathlib.Core.Bool.{Bool, cond, _&&_, not}
+use mathlib.Core.Bool.{Bool, true, false, cond, _&&_, not}
 use mathlib.Core.List.{List, [], _∷_, map}
 use lib.ListN.{length, getD}
 use lib.Dec.{eqb}
 use Rattle.numbers.specs.Lists.{every, Sized}
+use Rattle.addresses.specs.Addresses.{low32, sameAddress}
+use Rattle.addresses.specs.declared.Wide.{Wide}
+use Rattle.addresses.specs.declared.Address.{Address}
 use Rattle.table.specs.Table.{mostPlaces}
 use Rattle.flags.specs.declared.Phase.{Phase}
 use Rattle.flags.specs.declared.Phase.the-variants as phase
@@ -16,41 +19,60 @@ use Rattle.places.specs.declared.Quad.{Quad}
 abbrev pub placeSize : ℕ
 placeSize = 6
 
--- what the words of a place have room for and no meaning yet: the conversation's kind, its socket, the expected number, the upper half of either address
+-- what the words of a place have room for and no meaning yet: the conversation's socket, the expected number
 pub record Unused : Type 0 where
-  pub kind : ℕ
   pub socket : ℕ
   pub expected : ℕ
-  pub sourceHigh : ℕ
-  pub destinationHigh : ℕ
 
 -- none of it is said
 abbrev pub nothing : Unused
-nothing = record { kind = 0; socket = 0; expected = 0; sourceHigh = 0; destinationHigh = 0 }
+nothing = record { socket = 0; expected = 0 }
 
 -- A place for a conversation: its state (0 free, 1 Opening, 2 Running, 3 Closing), "source and destination address and port", and its age in ms.
--- Both ports are one number, source x 65,536 + destination.
+-- The addresses are of one kind. Both ports are one number, source x 65,536 + destination.
 pub record Place : Type 0 where
   pub state : ℕ
   pub quad : Quad
   pub age : ℕ
   pub unused : Unused
 
+-- no conversation: zeros
+abbrev pub noBits : Wide
+noBits = record { high = 0; low = 0 }
+
+abbrev pub noQuad : Quad
+noQuad = record { ipv6 = false; source = noBits; destination = noBits; ports = 0 }
+
 -- "A freed place is as in a fresh record"
 abbrev pub free : Place
-free = record { state = 0; quad = record { source = 0; destination = 0; ports = 0 }; age = 0; unused = nothing }
+free = record { state = 0; quad = noQuad; age = 0; unused = nothing }
 
 -- no conversation stands there
 abbrev pub isFree : Place → Bool
 isFree p = eqb (p .state) 0
 
--- the quadruple of an IPv4 conversation. An address is four bytes, so nothing is cut: the definition says so for every list of numbers
+-- 2/12, "Conversations hold either kind": the quadruple of an IPv4 conversation, and of an IPv6 one
 abbrev pub ipv4Quad : ℕ → ℕ → ℕ → Quad
-ipv4Quad s d ports = record { source = s % 2 ^ 32; destination = d % 2 ^ 32; ports = ports }
+ipv4Quad s d ports = record { ipv6 = false; source = low32 s; destination = low32 d; ports = ports }
 
--- "A conversation is source and destination address and port, as this direction shows them"
-abbrev pub sameQuad : Quad → Quad → Bool
-sameQuad a b = every (eqb (a .source) (b .source) ∷ eqb (a .destination) (b .destination) ∷ eqb (a .ports) (b .ports) ∷ [])
+abbrev pub ipv6Quad : Wide → Wide → ℕ → Quad
+ipv6Quad s d ports = record { ipv6 = true; source = s; destination = d; ports = ports }
+
+-- its addresses, each with its kind
+abbrev pub sourceOf : Quad → Address
+sourceOf q = record { ipv6 = q .ipv6; bits = q .source }
+
+abbrev pub destinationOf : Quad → Address
+destinationOf q = record { ipv6 = q .ipv6; bits = q .destination }
+
+-- "A conversation is source and destination address and port, as this direction shows them"; "an IPv4 address never equals an IPv6 one"
+unfoldable pub sameQuad : Quad → Quad → Bool
+sameQuad a b =
+    every
+    (sameAddress (sourceOf a) (sourceOf b)
+    ∷ sameAddress (destinationOf a) (destinationOf b)
+    ∷ eqb (a .ports) (b .ports)
+    ∷ [])
 
 -- the place holds the conversation
 unfoldable pub holds : Quad → Place → Bool
@@ -65,6 +87,10 @@ abbrev pub phaseWord : Phase → ℕ
 phaseWord phase.Opening = 1
 phaseWord phase.Running = 2
 phaseWord phase.Closing = 3
+
+-- the number of a kind
+abbrev pub kindOf : Bool → ℕ
+kindOf ipv6 = cond ipv6 1 0
 
 -- "A passed frame sets its conversation's age to 0"
 abbrev pub heldAs : Quad → Phase → Place
@@ -91,7 +117,7 @@ destinationHighWord = 4
 abbrev pub destinationWord : ℕ
 destinationWord = 5
 
--- in the first, the state stands below the kind, and each of these counts so much
+-- in the first, the state stands below the kind (0 IPv4, 1 IPv6), and each of these counts so much
 abbrev pub kindBit : ℕ
 kindBit = 4
 
@@ -106,15 +132,14 @@ ageBit = 16
 abbrev pub placeOf : List ℕ → Place
 placeOf w = record {
   state = getD w heldWord 0 % kindBit;
-  quad = record { source = getD w sourceWord 0; destination = getD w destinationWord 0; ports = getD w portsWord 0 / 2 ^ 32 };
-  age = getD w heldWord 0 / ageBit;
-  unused = record {
-    kind = getD w heldWord 0 / kindBit % 2;
-    socket = getD w heldWord 0 / socketBit % 2;
-    expected = getD w portsWord 0 % 2 ^ 32;
-    sourceHigh = getD w sourceHighWord 0;
-    destinationHigh = getD w destinationHighWord 0;
+  quad = record {
+    ipv6 = eqb (getD w heldWord 0 / kindBit % 2) 1;
+    source = record { high = getD w sourceHighWord 0; low = getD w sourceWord 0 };
+    destination = record { high = getD w destinationHighWord 0; low = getD w destinationWord 0 };
+    ports = getD w portsWord 0 / 2 ^ 32;
   };
+  age = getD w heldWord 0 / ageBit;
+  unused = record { socket = getD w heldWord 0 / socketBit % 2; expected = getD w portsWord 0 % 2 ^ 32 };
 }
 
 -- the places of one rule
@@ -124,12 +149,12 @@ placesOf ps = map placeOf ps
 -- and back: every six words are the words of the place that they say
 abbrev pub placeWords : Place → List ℕ
 placeWords p =
-    (p .state + kindBit * p .unused .kind + socketBit * p .unused .socket + ageBit * p .age)
+    (p .state + kindBit * kindOf (p .quad .ipv6) + socketBit * p .unused .socket + ageBit * p .age)
     ∷ (p .unused .expected + 2 ^ 32 * p .quad .ports)
-    ∷ p .unused .sourceHigh
-    ∷ p .quad .source
-    ∷ p .unused .destinationHigh
-    ∷ p .quad .destination
+    ∷ p .quad .source .high
+    ∷ p .quad .source .low
+    ∷ p .quad .destination .high
+    ∷ p .quad .destination .low
     ∷ []
 
 -- the places of one rule
@@ -139,7 +164,6 @@ placesWords ps = map placeWords ps
 -- the fields that share a word, each within its bits: such a place is read back from its words
 pub record Fits (p : Place) : Type 0 where
   pub state : p .state < 4
-  pub kind : p .unused .kind < 2
   pub socket : p .unused .socket < 2
   pub expected : p .unused .expected < 2 ^ 32
 

@@ -1,9 +1,26 @@
 // The words of one place, read and made.
 ghost use mathlib.Core.Path.{_≡_};
 ghost use Prim.Native.Nat.{_/_, _^_};
-ghost use Rattle.places.specs.Places.{placeOf, placeWords, ipv4Quad, holds, phaseOf, phaseWord, heldAs};
+ghost use Rattle.places.specs.Places.{
+  placeOf,
+  placeWords,
+  noQuad,
+  ipv4Quad,
+  ipv6Quad,
+  sourceOf,
+  destinationOf,
+  sameQuad,
+  holds,
+  phaseOf,
+  phaseWord,
+  kindOf,
+  heldAs,
+};
 ghost use Rattle.places.specs.Ageing.{withAge};
 use crate::*;
+use addresses::Address;
+use addresses::same_address;
+use addresses::wide128;
 use flags::Phase;
 
 // 0 where the place is free, else the number of its phase.
@@ -29,9 +46,28 @@ pub fn quad(p: &PlaceWords) -> Quad
     ensures { λ r. ⌜ r ≡ placeOf (now (p .entry)) .quad ⌝ }
 {
     Quad {
-        source: p[SOURCE],
-        destination: p[DESTINATION],
+        ipv6: p[HELD] / KIND_BIT % 2 == 1,
+        source: Wide {
+            high: p[SOURCE_HIGH],
+            low: p[SOURCE],
+        },
+        destination: Wide {
+            high: p[DESTINATION_HIGH],
+            low: p[DESTINATION],
+        },
         ports: high32(p[BOTH_PORTS]),
+    }
+}
+
+// No conversation: what stands in a free place.
+pub fn no_quad() -> Quad
+    ensures { λ r. ⌜ r ≡ noQuad ⌝ }
+{
+    Quad {
+        ipv6: false,
+        source: Wide { high: 0, low: 0 },
+        destination: Wide { high: 0, low: 0 },
+        ports: 0,
     }
 }
 
@@ -39,10 +75,47 @@ pub fn ipv4_quad(source: u32, destination: u32, ports: u32) -> Quad
     ensures { λ r. ⌜ r ≡ ipv4Quad source destination ports ⌝ }
 {
     Quad {
-        source: numbers::wide64(source),
-        destination: numbers::wide64(destination),
+        ipv6: false,
+        source: wide128(source),
+        destination: wide128(destination),
         ports,
     }
+}
+
+pub fn ipv6_quad(source: Wide, destination: Wide, ports: u32) -> Quad
+    ensures { λ r. ⌜ r ≡ ipv6Quad source destination ports ⌝ }
+{
+    Quad {
+        ipv6: true,
+        source,
+        destination,
+        ports,
+    }
+}
+
+// The addresses of a conversation, each with its kind.
+pub fn source(q: Quad) -> Address
+    ensures { λ r. ⌜ r ≡ sourceOf q ⌝ }
+{
+    let bits = q.source;
+    Address { ipv6: q.ipv6, bits }
+}
+
+pub fn destination(q: Quad) -> Address
+    ensures { λ r. ⌜ r ≡ destinationOf q ⌝ }
+{
+    let bits = q.destination;
+    Address { ipv6: q.ipv6, bits }
+}
+
+// The same conversation: the ports differ most often, so they are compared first.
+pub fn same_quad(a: Quad, b: Quad) -> bool
+    ensures { λ r. ⌜ r ≡ sameQuad a b ⌝ }
+{
+    if a.ports != b.ports {
+        return false;
+    }
+    same_address(source(a), source(b)) & same_address(destination(a), destination(b))
 }
 
 // Every number but 1 and 2 is Closing.
@@ -68,25 +141,35 @@ fn phase_word(f: Phase) -> u64
     }
 }
 
+fn kind_bit(ipv6: bool) -> u64
+    ensures { λ r. ⌜ r ≡ kindOf ipv6 ⌝ }
+{
+    if ipv6 { 1 } else { 0 }
+}
+
 // The words of a conversation of this age.
 pub fn place_words(q: Quad, f: Phase, age: u32) -> PlaceWords
     ensures { λ r. ⌜ r ≡ placeWords (withAge (heldAs q f) age) ⌝ }
 {
-    let held = phase_word(f) + AGE_BIT * numbers::wide64(age);
+    let held = phase_word(f) + KIND_BIT * kind_bit(q.ipv6) + AGE_BIT * numbers::wide64(age);
     let ports = HALF * numbers::wide64(q.ports);
-    [held, ports, 0, q.source, 0, q.destination]
+    let source = q.source;
+    let destination = q.destination;
+    [
+        held,
+        ports,
+        source.high,
+        source.low,
+        destination.high,
+        destination.low,
+    ]
 }
 
-// The ports differ most often, so they are compared first.
 pub fn is_held_by(q: Quad, p: &PlaceWords) -> bool
     ensures { λ r. ⌜ r ≡ holds q (placeOf (now (p .entry))) ⌝ }
 {
-    if q.ports == high32(p[BOTH_PORTS]) {
-        if q.source == p[SOURCE] {
-            if q.destination == p[DESTINATION] {
-                return p[HELD] % KIND_BIT != 0;
-            }
-        }
+    if p[HELD] % KIND_BIT == 0 {
+        return false;
     }
-    false
+    same_quad(q, quad(p))
 }

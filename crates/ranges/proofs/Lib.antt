@@ -1,3 +1,3 @@
-pub mod Rules
 pub mod Tests
+pub mod Rules
 pub mod Unset

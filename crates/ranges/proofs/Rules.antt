@@ -3,7 +3,7 @@
 use Prim.Native.Nat.{ℕ}
 use mathlib.Core.Path.{_≡_, refl}
 use mathlib.Core.List.{List, [], _∷_, _++_}
-use mathlib.Core.Bool.{Bool, true, false, cond, _&&_, not, Bool·beq, false≢true, true≢false}
+use mathlib.Core.Bool.{Bool, true, false, cond, _&&_, _||_, not, Bool·beq, false≢true, true≢false}
 use Rattle.numbers.proofs.Tests.{cond-skips}
 use Rattle.table.specs.Settings.{Setting, unset, set, within, isUnset, paired, of8, of16}
 use Rattle.ranges.specs.declared.setting_number.SettingNumber.{SettingNumber}
@@ -17,7 +17,8 @@ use Rattle.ranges.specs.Ranges.{
   test,
   headTests,
   linkTests,
-  ipv4Tests,
+  ipv6Good,
+  ipTests,
   transportTests,
   someipTests,
   rateTests,
@@ -33,6 +34,19 @@ use Rattle.table.specs.declared.Rule.{Rule}
 pub any-good : {A : Type 0} (s : Setting A) → within any s ≡ true
 any-good unset = refl
 any-good (set v) = refl
+
+-- an IPv6 setting that is unset, and one in the words of the code
+pub unset-good : {A : Type 0} (p : A → Bool) (s : Setting A) (alone : Bool) → isUnset s ≡ true → ipv6Good p s alone ≡ true
+unset-good p unset alone e = refl
+unset-good p (set v) alone e = absurd (false≢true e)
+
+pub by-parts :
+    {A : Type 0} (p : A → Bool) (s : Setting A) (alone : Bool) {a b : Bool} → a ≡ within p s → b ≡ isUnset s
+    → (a && (b || alone)) ≡ ipv6Good p s alone
+by-parts p s alone e f = rw (e, f)
+
+pub any-alone : {A : Type 0} (s : Setting A) (alone : Bool) {b : Bool} → b ≡ isUnset s → (b || alone) ≡ ipv6Good any s alone
+any-alone s alone f = rw (f, any-good s)
 
 -- "both or neither": the two halves of a pair, each with the other
 pub pair-fault :
@@ -104,11 +118,11 @@ module _ (r : Rule) where
   abbrev pub fromTransport : List Test
   fromTransport = transportTests (r .transport) ++ fromSomeip
 
-  abbrev pub fromIpv4 : List Test
-  fromIpv4 = ipv4Tests (r .ipv4) ++ fromTransport
+  abbrev pub fromIp : List Test
+  fromIp = ipTests (r .ipv4) (r .ipv6) ++ fromTransport
 
   abbrev pub fromLink : List Test
-  fromLink = linkTests (r .link) ++ fromIpv4
+  fromLink = linkTests (r .link) ++ fromIp
 
 -- the tests before these have passed
 abbrev pub Reached : Bool → Rule → List Test → Type 0
@@ -127,7 +141,7 @@ module _ (fresh : Bool) (r : Rule) where
       rest-good (rateTests (r .rate)) (fromTracking r)
       (rest-good (someipTests (r .someip)) (fromRate r)
       (rest-good (transportTests (r .transport)) (fromSomeip r)
-      (rest-good (ipv4Tests (r .ipv4)) (fromTransport r) (rest-good (linkTests (r .link)) (fromIpv4 r) (rest-good (headTests fresh r) (fromLink r) e)))))
+      (rest-good (ipTests (r .ipv4) (r .ipv6)) (fromTransport r) (rest-good (linkTests (r .link)) (fromIp r) (rest-good (headTests fresh r) (fromLink r) e)))))
 
   pub at-head : Reached fresh r (headTests fresh r ++ fromLink r)
   unfolding ruleTests

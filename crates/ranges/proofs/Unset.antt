@@ -1,7 +1,7 @@
 -- Where no mark of a layer stands, none of its settings is set, and none is at fault.
 -- Assumes nothing.
 use Prim.Native.Nat.{ℕ, _+_, _-_, _/_, _%_, _^_, _<_}
-use mathlib.Core.Path.{_≡_, sym, ap, _∙_}
+use mathlib.Core.Path.{_≡_, refl, sym, ap, _∙_}
 use mathlib.Core.List.{List}
 use mathlib.Core.Bool.{Bool, true, false}
 use native.Mathlib.Nat.{zero-div}
@@ -9,8 +9,15 @@ use native.Mathlib.Omega.{arith}
 use borrow.Author.Tests.{eqb-true, ne-eqb}
 use lib.Dec.{eqb}
 use lib.Pow.{field, mod-mod-pow}
+use Rattle.numbers.specs.Lists.{every}
+use Rattle.numbers.proofs.Lists.{every-at}
+use Rattle.numbers.proofs.Tests.{cond-skips}
+use Rattle.table.specs.Marks.{ipv6Unset}
+use Rattle.table.specs.Settings.{of8, ofPrefix6}
 use Rattle.table.specs.Table.{marked}
-use Rattle.ranges.specs.Ranges.{linkTests, ipv4Tests, transportTests, rateTests, trackingTests, faultIn}
+use Rattle.table.specs.declared.Ipv6Settings.{Ipv6Settings}
+use Rattle.ranges.proofs.Rules.{unset-good}
+use Rattle.ranges.specs.Ranges.{any, prefix6Good, linkTests, ipTests, ipv6Tests, transportTests, rateTests, trackingTests, faultIn}
 use Rattle.ranges.specs.Numbers.{none}
 use Rattle.table.specs.Words.{
   linkWord,
@@ -27,8 +34,10 @@ use Rattle.table.specs.Words.{
   kindSettingIn,
   rangeIn,
   prefixIn,
+  prefix6In,
   linkIn,
   ipv4In,
+  ipv6In,
   transportIn,
   rateIn,
   trackingIn,
@@ -56,9 +65,10 @@ module _ (w : List ℕ) where
     link-unset e =
         rw (none-set linkWord 0 e f (omega arith), none-set linkWord 1 e f (omega arith), none-set linkWord 2 e f (omega arith), none-set linkWord 3 e f (omega arith), none-set linkWord 4 e f (omega arith))
 
-    pub ipv4-unset : b ≡ eqb (word w ipWord % 256) 0 → none ≡ faultIn (ipv4Tests (ipv4In w))
-    unfolding setting8In prefixIn
-    ipv4-unset e = rw (none-set ipWord 0 e f (omega arith), none-set ipWord 1 e f (omega arith), none-set ipWord 2 e f (omega arith))
+    pub ip-unset : b ≡ eqb (word w ipWord % 256) 0 → none ≡ faultIn (ipTests (ipv4In w) (ipv6In w))
+    unfolding setting8In prefixIn prefix6In
+    ip-unset e =
+        rw (none-set ipWord 0 e f (omega arith), none-set ipWord 1 e f (omega arith), none-set ipWord 2 e f (omega arith), none-set ipWord 3 e f (omega arith), none-set ipWord 4 e f (omega arith), none-set ipWord 5 e f (omega arith))
 
     pub transport-unset : b ≡ eqb (word w transportWord % 256) 0 → none ≡ faultIn (transportTests (transportIn w))
     unfolding kindSettingIn rangeIn
@@ -72,3 +82,12 @@ module _ (w : List ℕ) where
     pub tracking-unset : b ≡ eqb (word w trackingWord % 256) 0 → (may : Bool) → none ≡ faultIn (trackingTests (trackingIn w) may)
     unfolding setting8In setting32In
     tracking-unset e may = rw (none-set trackingWord 0 e f (omega arith), none-set trackingWord 1 e f (omega arith))
+
+-- no IPv6 setting is set, and none is at fault
+pub ipv6-unset : (s : Ipv6Settings) (alone : Bool) {b : Bool} → b ≡ every (ipv6Unset s) → b ≡ true → none ≡ faultIn (ipv6Tests s alone)
+ipv6-unset s alone e f =
+    let h = sym e ∙ f in
+    let ts = ipv6Unset s in
+    cond-skips _ (unset-good prefix6Good (ofPrefix6 (s .source)) alone (every-at ts 0 h))
+    (cond-skips _ (unset-good prefix6Good (ofPrefix6 (s .destination)) alone (every-at ts 1 h))
+    (cond-skips _ (unset-good any (of8 (s .protocol)) alone (every-at ts 2 h)) refl))

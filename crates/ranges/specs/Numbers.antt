@@ -37,6 +37,15 @@ ipv4Destination = numbered 7
 abbrev pub ipv4Protocol : SettingNumber
 ipv4Protocol = numbered 8
 
+abbrev pub ipv6Source : SettingNumber
+ipv6Source = numbered 21
+
+abbrev pub ipv6Destination : SettingNumber
+ipv6Destination = numbered 22
+
+abbrev pub ipv6Protocol : SettingNumber
+ipv6Protocol = numbered 23
+
 abbrev pub kind : SettingNumber
 kind = numbered 9
 

@@ -1,26 +1,29 @@
--- When a rule is bad by itself: its settings in the paper's order, each with its test. Document 01, 'Rules and vehicle states'; change request 1/12.
+-- When a rule is bad by itself: its settings in the paper's order, each with its test. Document 01, 'Rules and vehicle states'; change requests 1/12 and 2/12.
 -- Assumes nothing.
 use Prim.Native.Nat.{ℕ}
 use mathlib.Core.List.{List, [], _∷_, _++_}
 use mathlib.Core.Bool.{Bool, true, false, cond, _&&_, _||_}
 use lib.Dec.{leb}
-use Rattle.numbers.specs.Lists.{everyOf}
-use Rattle.table.specs.Settings.{Setting, of8, of16, of32, of64, ofKind, ofRange, ofPrefix, isUnset, within, paired}
+use Rattle.numbers.specs.Lists.{every, everyOf}
+use Rattle.table.specs.Settings.{Setting, of8, of16, of32, of64, ofKind, ofRange, ofPrefix, ofPrefix6, isUnset, within, paired}
 use Rattle.table.specs.declared.Action.{Action}
 use Rattle.table.specs.declared.Action.the-variants as action
 use Rattle.table.specs.declared.Kind.{Kind}
 use Rattle.table.specs.declared.Kind.the-variants as kind
 use Rattle.table.specs.declared.Range.{Range}
 use Rattle.table.specs.declared.Prefix.{Prefix}
+use Rattle.table.specs.declared.Prefix6.{Prefix6}
 use Rattle.table.specs.declared.KindSetting.{KindSetting}
 use Rattle.table.specs.declared.RangeSetting.{RangeSetting}
 use Rattle.table.specs.declared.LinkSettings.{LinkSettings}
 use Rattle.table.specs.declared.Ipv4Settings.{Ipv4Settings}
+use Rattle.table.specs.declared.Ipv6Settings.{Ipv6Settings}
 use Rattle.table.specs.declared.TransportSettings.{TransportSettings}
 use Rattle.table.specs.declared.SomeipSettings.{SomeipSettings}
 use Rattle.table.specs.declared.RateSettings.{RateSettings}
 use Rattle.table.specs.declared.TrackingSettings.{TrackingSettings}
 use Rattle.table.specs.declared.Rule.{Rule}
+use Rattle.table.specs.Marks.{ipv4Unset}
 use Rattle.table.specs.Table.{mostPlaces, isAllow, isTcp}
 use Rattle.ranges.specs.declared.setting_number.SettingNumber.{SettingNumber}
 use Rattle.ranges.specs.Numbers as setting
@@ -45,6 +48,17 @@ knownKind kind.Unknown = false
 
 abbrev pub prefixGood : Prefix → Bool
 prefixGood p = leb (p .length) 32
+
+abbrev pub prefix6Good : Prefix6 → Bool
+prefix6Good p = leb (p .length) 128
+
+-- 2/12, "A rule sets IPv4 or IPv6 or neither": no setting of IPv4 is set
+abbrev pub noIpv4 : Ipv4Settings → Bool
+noIpv4 s = every (ipv4Unset s)
+
+-- an IPv6 setting, within its range, and alone: not beside one of IPv4
+abbrev pub ipv6Good : {A : Type 0} → (A → Bool) → Setting A → Bool → Bool
+ipv6Good p s alone = within p s && (isUnset s || alone)
 
 -- "a range has its low end above its high"
 abbrev pub rangeGood : Range → Bool
@@ -96,6 +110,18 @@ ipv4Tests s =
     ∷ test setting.ipv4Protocol (within any (of8 (s .protocol)))
     ∷ []
 
+-- "4 also for a rule with both kinds set, at its first IPv6 setting"
+abbrev pub ipv6Tests : Ipv6Settings → Bool → List Test
+ipv6Tests s alone =
+    test setting.ipv6Source (ipv6Good prefix6Good (ofPrefix6 (s .source)) alone)
+    ∷ test setting.ipv6Destination (ipv6Good prefix6Good (ofPrefix6 (s .destination)) alone)
+    ∷ test setting.ipv6Protocol (ipv6Good any (of8 (s .protocol)) alone)
+    ∷ []
+
+-- the IP layer: "later settings stand last in their layer"
+abbrev pub ipTests : Ipv4Settings → Ipv6Settings → List Test
+ipTests s z = ipv4Tests s ++ ipv6Tests z (noIpv4 s)
+
 -- "ports without a kind their first range"
 abbrev pub transportTests : TransportSettings → List Test
 transportTests s =
@@ -131,7 +157,7 @@ unfoldable pub ruleTests : Bool → Rule → List Test
 ruleTests fresh r =
     headTests fresh r
     ++ linkTests (r .link)
-    ++ ipv4Tests (r .ipv4)
+    ++ ipTests (r .ipv4) (r .ipv6)
     ++ transportTests (r .transport)
     ++ someipTests (r .someip)
     ++ rateTests (r .rate)

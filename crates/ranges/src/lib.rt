@@ -1,7 +1,20 @@
 // The settings of one rule: the first that is at fault.
 ghost use mathlib.Core.Path.{_≡_};
-ghost use Rattle.table.specs.Words.{linkIn, ipv4In, transportIn, rateIn, trackingIn, ruleIn};
-ghost use Rattle.ranges.specs.Ranges.{headTests, linkTests, ipv4Tests, transportTests, rateTests, trackingTests, ruleTests, mayTrack, faultIn};
+ghost use Rattle.table.specs.Words.{linkIn, ipv4In, ipv6In, transportIn, rateIn, trackingIn, ruleIn};
+ghost use Rattle.ranges.specs.Ranges.{
+  headTests,
+  linkTests,
+  ipv4Tests,
+  noIpv4,
+  ipv6Tests,
+  ipTests,
+  transportTests,
+  rateTests,
+  trackingTests,
+  ruleTests,
+  mayTrack,
+  faultIn,
+};
 
 pub mod setting_number;
 pub mod within;
@@ -49,6 +62,25 @@ fn ipv4_fault(s: Ipv4Settings) -> SettingNumber
     }
     if !prefix_good(destination) {
         return SettingNumber::IPV4_DESTINATION;
+    }
+    SettingNumber::NONE
+}
+
+// Within its range, and not beside a setting of IPv4.
+fn ipv6_fault(s: Ipv6Settings, alone: bool) -> SettingNumber
+    ensures { λ n. ⌜ n ≡ faultIn (ipv6Tests s alone) ⌝ }
+{
+    let source = s.source;
+    let destination = s.destination;
+    let protocol = s.protocol;
+    if !(prefix6_good(source) & (unset_prefix6(source) | alone)) {
+        return SettingNumber::IPV6_SOURCE;
+    }
+    if !(prefix6_good(destination) & (unset_prefix6(destination) | alone)) {
+        return SettingNumber::IPV6_DESTINATION;
+    }
+    if !(unset8(protocol) | alone) {
+        return SettingNumber::IPV6_PROTOCOL;
     }
     SettingNumber::NONE
 }
@@ -147,13 +179,26 @@ fn link_in_row(r: &RuleWords) -> SettingNumber
     link_fault(link(r))
 }
 
-fn ipv4_in_row(r: &RuleWords) -> SettingNumber
-    ensures { λ n. ⌜ n ≡ faultIn (ipv4Tests (ipv4In (now (r .entry)))) ⌝ }
+fn ip_in_row(r: &RuleWords) -> SettingNumber
+    ensures { λ n. ⌜ n ≡ faultIn (ipTests (ipv4In (now (r .entry))) (ipv6In (now (r .entry)))) ⌝ }
 {
     if none_set(r, IP) {
         return SettingNumber::NONE;
     }
-    ipv4_fault(ipv4(r))
+    let ipv4s = ipv4_fault(ipv4(r));
+    if ipv4s.number != NO_SETTING {
+        return ipv4s;
+    }
+    ipv6_in_row(r)
+}
+
+fn ipv6_in_row(r: &RuleWords) -> SettingNumber
+    ensures { λ n. ⌜ n ≡ faultIn (ipv6Tests (ipv6In (now (r .entry))) (noIpv4 (ipv4In (now (r .entry))))) ⌝ }
+{
+    if no_ipv6(r) {
+        return SettingNumber::NONE;
+    }
+    ipv6_fault(ipv6(r), no_ipv4(r))
 }
 
 fn transport_in_row(r: &RuleWords) -> SettingNumber
@@ -195,7 +240,7 @@ pub fn rule_fault(fresh: bool, r: &RuleWords) -> SettingNumber
     if links.number != NO_SETTING {
         return links;
     }
-    let ips = ipv4_in_row(r);
+    let ips = ip_in_row(r);
     if ips.number != NO_SETTING {
         return ips;
     }

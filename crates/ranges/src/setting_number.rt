@@ -6,7 +6,7 @@ ghost use Rattle.table.specs.Table.{noRule};
 ghost use Rattle.ranges.specs.Ranges.{settingOf, ruleTests};
 
 // How many settings a rule has, its id and its action among them.
-pub const SETTINGS: usize = 22;
+pub const SETTINGS: usize = 25;
 
 // The number that stands for none of them.
 pub const NO_SETTING: u8 = SettingNumber::NONE.number;
@@ -36,6 +36,12 @@ impl SettingNumber {
     pub const IPV4_DESTINATION: SettingNumber = SettingNumber { number: 7 };
 
     pub const IPV4_PROTOCOL: SettingNumber = SettingNumber { number: 8 };
+
+    pub const IPV6_SOURCE: SettingNumber = SettingNumber { number: 21 };
+
+    pub const IPV6_DESTINATION: SettingNumber = SettingNumber { number: 22 };
+
+    pub const IPV6_PROTOCOL: SettingNumber = SettingNumber { number: 23 };
 
     pub const KIND: SettingNumber = SettingNumber { number: 9 };
 
@@ -79,6 +85,9 @@ impl SettingNumber {
             SettingNumber::IPV4_SOURCE,
             SettingNumber::IPV4_DESTINATION,
             SettingNumber::IPV4_PROTOCOL,
+            SettingNumber::IPV6_SOURCE,
+            SettingNumber::IPV6_DESTINATION,
+            SettingNumber::IPV6_PROTOCOL,
             SettingNumber::KIND,
             SettingNumber::SOURCE_PORTS,
             SettingNumber::DESTINATION_PORTS,

@@ -1,7 +1,7 @@
 // Is the value of one setting within its range?
 ghost use mathlib.Core.Path.{_≡_};
-ghost use Rattle.table.specs.Settings.{of8, of16, of32, of64, ofKind, ofPrefix, within};
-ghost use Rattle.ranges.specs.Ranges.{fromTo, knownAction, knownKind, prefixGood, portsGood};
+ghost use Rattle.table.specs.Settings.{of8, of16, of32, of64, ofKind, ofPrefix, ofPrefix6, within};
+ghost use Rattle.ranges.specs.Ranges.{fromTo, knownAction, knownKind, prefixGood, prefix6Good, portsGood};
 use table::settings::unset_kind;
 use table::*;
 
@@ -47,6 +47,15 @@ pub(crate) fn prefix_good(s: PrefixSetting) -> bool
     match s {
         PrefixSetting::Unset => true,
         PrefixSetting::Set(p) => p.length <= 32,
+    }
+}
+
+pub(crate) fn prefix6_good(s: Prefix6Setting) -> bool
+    ensures { λ r. ⌜ r ≡ within prefix6Good (ofPrefix6 s) ⌝ }
+{
+    match s {
+        Prefix6Setting::Unset => true,
+        Prefix6Setting::Set(p) => p.length <= 128,
     }
 }
 

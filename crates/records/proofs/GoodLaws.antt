@@ -25,7 +25,7 @@ use Rattle.table.specs.declared.Bucket.the-variants as bucket
 use Rattle.table.specs.declared.Tracking.the-variants as tracking
 use Rattle.places.specs.Places.{free, isFree, Fits}
 use Rattle.places.specs.Ageing.{agedPlaces}
-use Rattle.places.specs.Good.{young, clean, limitIn, isIpv4}
+use Rattle.places.specs.Good.{young, clean, limitIn, fitsKind}
 use Rattle.conversations.specs.declared.Turn.{Turn}
 use Rattle.numbers.proofs.Tests.{by-test, by-less, or-second}
 use Rattle.places.proofs.HoldLaws.{free-holds}
@@ -181,7 +181,7 @@ unfolding recordGood recordTests
 default-good r a x h = h
 
 pub at-good :
-    (t : Table) (state : ℕ) (g : Turn) (d : ℕ) (x : RuleRecord) → isIpv4 (g .quad) ≡ true → faultOf t ≡ fault.Good → Decider t d
+    (t : Table) (state : ℕ) (g : Turn) (d : ℕ) (x : RuleRecord) → fitsKind (g .quad) ≡ true → faultOf t ≡ fault.Good → Decider t d
     → recordGood (ruleOfRecord t d) x ≡ true → recordGood (ruleOfRecord t d) (reactedAt t state g d x .after) ≡ true
 at-good t state g d x v e w h =
     at-by t state g d x (λ y. recordGood (ruleOfRecord t d) (y .after) ≡ true)
@@ -217,7 +217,7 @@ ticked-good t reading s h =
     ap (recordGood r) (ticked-at t reading s i) ∙ aged-good (reading - s .last) r (recordAt s i) (good-record t s h i m))
 
 pub acted-good :
-    (t : Table) (g : Turn) (d : ℕ) (s : Records) → isIpv4 (g .quad) ≡ true → faultOf t ≡ fault.Good → Decider t d
+    (t : Table) (g : Turn) (d : ℕ) (s : Records) → fitsKind (g .quad) ≡ true → faultOf t ≡ fault.Good → Decider t d
     → recordsGood t s ≡ true → recordsGood t (acted t g d s) ≡ true
 unfolding acted
 acted-good t g d s v e w h =

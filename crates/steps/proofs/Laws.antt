@@ -12,7 +12,6 @@ use Rattle.numbers.specs.Lists.{first}
 use Rattle.numbers.proofs.Lists.{cond-both, first-before}
 use Rattle.packets.specs.declared.Ip.{Ip}
 use Rattle.packets.specs.declared.Ip.the-variants as ip
-use Rattle.packets.specs.declared.Packet.{Packet}
 use Rattle.payloads.specs.declared.Segment.{Segment}
 use Rattle.payloads.specs.declared.Transport.{Transport}
 use Rattle.payloads.specs.declared.Transport.the-variants as transport
@@ -37,13 +36,12 @@ use Rattle.deciding.proofs.Deciders.{decider-is}
 use Rattle.flags.specs.declared.Flags.{Flags}
 use Rattle.conversations.specs.declared.Turn.{Turn}
 use Rattle.places.specs.declared.Quad.{Quad}
-use Rattle.places.specs.Places.{ipv4Quad}
 use Rattle.records.specs.Records.{Lent, Records, recordsOf, wordsOf, Shaped, ShapedRecords}
 use Rattle.flags.specs.Flags.{kindOf}
 use Rattle.verdicts.specs.Rule.{overRate, noPlaceFree, blockedByDefault}
 use Rattle.records.specs.Step.{ticked, reaction, acted}
-use Rattle.places.specs.Good.{placesIn, isIpv4}
-use Rattle.places.proofs.PlaceLaws.{quad-ipv4}
+use Rattle.places.specs.Good.{placesIn, fitsKind}
+use Rattle.places.proofs.PlaceLaws.{quad-ipv4, quad-ipv6}
 use Rattle.records.specs.Good.{recordsGood}
 use Rattle.records.proofs.GoodLaws.{Decider, good-state, ticked-good, acted-good, ticked-shaped, acted-shaped}
 use Rattle.records.proofs.WordLaws.{words-back}
@@ -53,7 +51,7 @@ use Rattle.events.specs.declared.Event.the-variants as event
 use Rattle.steps.specs.declared.Answer.{Answer}
 use Rattle.steps.specs.declared.Report.{Report}
 use Rattle.steps.specs.declared.Report.the-variants as report
-use Rattle.steps.specs.Steps.{turnIn, turnOf, idAt, wrongStep, eventFor, bestEvent, eventOf, outcomeOf, stepped, steppedAs}
+use Rattle.steps.specs.Steps.{quadOf, turnIn, turnOf, idAt, wrongStep, eventFor, bestEvent, eventOf, outcomeOf, stepped, steppedAs}
 
 -- ---- who decides
 
@@ -76,20 +74,23 @@ few-places t state x d e q h =
 -- ---- what tracking looks at
 
 pub turn-tcp :
-    (x : Ip) (y : Transport) (p : Packet) (g : Segment) (k : Flags) (a b : ℕ) → x ≡ ip.V4 p → y ≡ transport.Tcp g
-    → a ≡ g .source → b ≡ g .destination → k ≡ kindOf (g .fin) (g .syn) (g .rst) (g .ack)
-    → (q : Quad) → q ≡ ipv4Quad (p .source) (p .destination) (a * 65536 + b) → _≡_ {A = Turn} (record { quad = q; flags = k }) (turnIn x y)
-turn-tcp x y p g k a b e f h m n q w = rw (w, e, f, h, m, n)
+    (x : Ip) (y : Transport) (g : Segment) (k : Flags) (a b : ℕ) → y ≡ transport.Tcp g → a ≡ g .source → b ≡ g .destination
+    → k ≡ kindOf (g .fin) (g .syn) (g .rst) (g .ack) → (q : Quad) → q ≡ quadOf x (a * 65536 + b)
+    → _≡_ {A = Turn} (record { quad = q; flags = k }) (turnIn x y)
+turn-tcp x y g k a b f h m n q w = rw (w, f, h, m, n)
 
--- whatever is tracked, its addresses have 32 bits
-turn-in-plain : (x : Ip) (y : Transport) → isIpv4 (turnIn x y .quad) ≡ true
-turn-in-plain ip.Absent y = refl
-turn-in-plain (ip.V4 p) transport.Absent = refl
-turn-in-plain (ip.V4 p) (transport.Udp u) = refl
-turn-in-plain (ip.V4 p) (transport.Tcp t) =
-    quad-ipv4 (p .source) (p .destination) (t .source * 65536 + t .destination)
+-- whatever is tracked, its addresses are of their kind
+quad-plain : (x : Ip) (ports : ℕ) → fitsKind (quadOf x ports) ≡ true
+quad-plain ip.Absent ports = refl
+quad-plain (ip.V4 p) ports = quad-ipv4 (p .source) (p .destination) ports
+quad-plain (ip.V6 p) ports = quad-ipv6 (p .source) (p .destination) ports
 
-pub turn-plain : (x : Seen) → isIpv4 (turnOf x .quad) ≡ true
+turn-in-plain : (x : Ip) (y : Transport) → fitsKind (turnIn x y .quad) ≡ true
+turn-in-plain x transport.Absent = refl
+turn-in-plain x (transport.Udp u) = refl
+turn-in-plain x (transport.Tcp t) = quad-plain x (t .source * 65536 + t .destination)
+
+pub turn-plain : (x : Seen) → fitsKind (turnOf x .quad) ≡ true
 turn-plain x = turn-in-plain (x .layers .ip) (x .layers .transport)
 
 -- ---- the best fit

@@ -23,7 +23,8 @@ use Rattle.deciding.specs.Best.{bestOf}
 use Rattle.conversations.specs.declared.Turn.{Turn}
 use Rattle.flags.specs.declared.Flags.the-variants as flags
 use Rattle.records.specs.Records.{Lent, Records, default, recordsOf, wordsOf}
-use Rattle.places.specs.Places.{ipv4Quad}
+use Rattle.places.specs.declared.Quad.{Quad}
+use Rattle.places.specs.Places.{noQuad, ipv4Quad, ipv6Quad}
 use Rattle.flags.specs.Flags.{kindOf}
 use Rattle.verdicts.specs.Rule.{overRate, noPlaceFree, blockedByDefault, wrongFlags, noConversation, notInState}
 use Rattle.records.specs.Step.{ticked, reaction, acted}
@@ -49,17 +50,19 @@ seenOf a l = seen (a .bytes) l
 
 -- what tracking looks at: addresses, ports and flags of a TCP segment; nothing that it knows where there is none
 abbrev pub noTurn : Turn
-noTurn = record { quad = record { source = 0; destination = 0; ports = 0 }; flags = flags.Wrong }
+noTurn = record { quad = noQuad; flags = flags.Wrong }
+
+-- the conversation between the addresses of a packet of either kind
+abbrev pub quadOf : Ip → ℕ → Quad
+quadOf ip.Absent ports = noQuad
+quadOf (ip.V4 p) ports = ipv4Quad (p .source) (p .destination) ports
+quadOf (ip.V6 p) ports = ipv6Quad (p .source) (p .destination) ports
 
 -- by the layers that tell it
 abbrev pub turnIn : Ip → Transport → Turn
-turnIn (ip.V4 p) (transport.Tcp t) = record {
-  quad = ipv4Quad (p .source) (p .destination) (t .source * 65536 + t .destination);
-  flags = kindOf (t .fin) (t .syn) (t .rst) (t .ack);
-}
-turnIn (ip.V4 p) transport.Absent = noTurn
-turnIn (ip.V4 p) (transport.Udp u) = noTurn
-turnIn ip.Absent t = noTurn
+turnIn i (transport.Tcp t) = record { quad = quadOf i (t .source * 65536 + t .destination); flags = kindOf (t .fin) (t .syn) (t .rst) (t .ack) }
+turnIn i transport.Absent = noTurn
+turnIn i (transport.Udp u) = noTurn
 
 -- of what is seen of a frame
 abbrev pub turnOf : Seen → Turn

@@ -10,7 +10,7 @@ ghost use Rattle.table.specs.Words.{tableIn};
 ghost use Rattle.deciding.specs.Best.{bestOf};
 ghost use Rattle.records.specs.Records.{recordsOf, lent, before, after};
 ghost use Rattle.events.specs.Events.{eventRoom, Wrote};
-ghost use Rattle.steps.specs.Steps.{noTurn, turnIn, idAt, wrongStep, eventFor, bestEvent, eventOf, outcomeOf, Ready, stepped, steppedAs};
+ghost use Rattle.steps.specs.Steps.{noTurn, quadOf, turnIn, idAt, wrongStep, eventFor, bestEvent, eventOf, outcomeOf, Ready, stepped, steppedAs};
 use conversations::Turn;
 use deciding::Best;
 use deciding::decide;
@@ -25,6 +25,8 @@ use packets::Ip;
 use payloads::Transport;
 use places::Quad;
 use places::place::ipv4_quad;
+use places::place::ipv6_quad;
+use places::place::no_quad;
 use records::ACTIVE;
 use records::Counts;
 use records::DEFAULT;
@@ -61,12 +63,19 @@ fn no_turn() -> Turn
     ensures { λ r. ⌜ r ≡ noTurn ⌝ }
 {
     Turn {
-        quad: Quad {
-            source: 0,
-            destination: 0,
-            ports: 0,
-        },
+        quad: no_quad(),
         flags: Flags::Wrong,
+    }
+}
+
+// The conversation between the addresses of a packet of either kind, none where there is no packet.
+fn quad_of(ip: Ip, ports: u32) -> Quad
+    ensures { λ r. ⌜ r ≡ quadOf ip ports ⌝ }
+{
+    match ip {
+        Ip::Absent => no_quad(),
+        Ip::V4(p) => ipv4_quad(p.source, p.destination, ports),
+        Ip::V6(p) => ipv6_quad(p.source, p.destination, ports),
     }
 }
 
@@ -74,18 +83,11 @@ fn no_turn() -> Turn
 pub(crate) fn turn(ip: Ip, t: Transport) -> Turn
     ensures { λ r. ⌜ r ≡ turnIn ip t ⌝ }
 {
-    let Ip::V4(p) = ip else {
-        return no_turn();
-    };
     match t {
         Transport::Absent => no_turn(),
         Transport::Udp(_) => no_turn(),
         Transport::Tcp(s) => Turn {
-            quad: ipv4_quad(
-                p.source,
-                p.destination,
-                wide32(s.source) * 65536 + wide32(s.destination),
-            ),
+            quad: quad_of(ip, wide32(s.source) * 65536 + wide32(s.destination)),
             flags: flag_kind(s.fin, s.syn, s.rst, s.ack),
         },
     }

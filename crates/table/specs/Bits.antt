@@ -59,6 +59,25 @@ protocolMark = 2
 abbrev pub protocolAt : ℕ
 protocolAt = 24
 
+-- the same of IPv6, whose addresses are words of their own
+abbrev pub source6PrefixMark : ℕ
+source6PrefixMark = 3
+
+abbrev pub source6LengthAt : ℕ
+source6LengthAt = 32
+
+abbrev pub destination6PrefixMark : ℕ
+destination6PrefixMark = 4
+
+abbrev pub destination6LengthAt : ℕ
+destination6LengthAt = 40
+
+abbrev pub protocol6Mark : ℕ
+protocol6Mark = 5
+
+abbrev pub protocol6At : ℕ
+protocol6At = 48
+
 -- transport: the ports stand beside the head word
 abbrev pub kindMark : ℕ
 kindMark = 0

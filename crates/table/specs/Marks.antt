@@ -1,10 +1,11 @@
 -- Which settings of a layer are unset, in the paper's order: a layer's match and the marks of its word go by it.
 -- Assumes nothing.
-use mathlib.Core.List.{List, [], _∷_}
+use mathlib.Core.List.{List, [], _∷_, _++_}
 use mathlib.Core.Bool.{Bool}
-use Rattle.table.specs.Settings.{of8, of16, of32, of64, ofKind, ofRange, ofPrefix, isUnset}
+use Rattle.table.specs.Settings.{of8, of16, of32, of64, ofKind, ofRange, ofPrefix, ofPrefix6, isUnset}
 use Rattle.table.specs.declared.LinkSettings.{LinkSettings}
 use Rattle.table.specs.declared.Ipv4Settings.{Ipv4Settings}
+use Rattle.table.specs.declared.Ipv6Settings.{Ipv6Settings}
 use Rattle.table.specs.declared.TransportSettings.{TransportSettings}
 use Rattle.table.specs.declared.SomeipSettings.{SomeipSettings}
 use Rattle.table.specs.declared.RateSettings.{RateSettings}
@@ -21,6 +22,13 @@ linkUnset s =
 
 abbrev pub ipv4Unset : Ipv4Settings → List Bool
 ipv4Unset s = isUnset (ofPrefix (s .source)) ∷ isUnset (ofPrefix (s .destination)) ∷ isUnset (of8 (s .protocol)) ∷ []
+
+abbrev pub ipv6Unset : Ipv6Settings → List Bool
+ipv6Unset s = isUnset (ofPrefix6 (s .source)) ∷ isUnset (ofPrefix6 (s .destination)) ∷ isUnset (of8 (s .protocol)) ∷ []
+
+-- the IP layer: IPv4's, then IPv6's
+abbrev pub ipUnset : Ipv4Settings → Ipv6Settings → List Bool
+ipUnset s z = ipv4Unset s ++ ipv6Unset z
 
 abbrev pub transportUnset : TransportSettings → List Bool
 transportUnset s = isUnset (ofKind (s .kind)) ∷ isUnset (ofRange (s .source)) ∷ isUnset (ofRange (s .destination)) ∷ []

@@ -1,11 +1,11 @@
--- What a setting means, said once over the width and the type of its value. Document 01, 'Ranges, prefixes and unset settings are proved once over the width'.
+-- What a setting means, said once over the width and the type of its value. Document 01, 'Ranges, prefixes and unset settings are proved once over the width'; of prefixes see Meaning of `addresses`.
 -- Assumes nothing.
-use Prim.Native.Nat.{ℕ, _-_, _/_, _%_, _^_, _≤_, _<_}
+use Prim.Native.Nat.{ℕ, _≤_}
 use mathlib.Core.Logic.{_↔_}
 use mathlib.Core.Path.{_≡_}
 use mathlib.Core.Bool.{Bool, true}
 use lib.Dec.{eqb}
-use Rattle.table.specs.Settings.{Setting, set, isUnset, agrees, inRange, prefixAgrees}
+use Rattle.table.specs.Settings.{Setting, set, isUnset, agrees, inRange}
 use Rattle.table.specs.declared.Range.{Range}
 
 -- "An unset setting" asks nothing: it agrees with whatever a frame shows
@@ -19,13 +19,3 @@ SetAgrees = (v x : ℕ) → (agrees eqb (set v) x ≡ true) ↔ (v ≡ x)
 -- "ranges, ends included"
 abbrev pub RangeAgrees : Type 0
 RangeAgrees = (r : Range) (x : ℕ) → (inRange r x ≡ true) ↔ ((r .low ≤ x) × (x ≤ r .high))
-
--- bit k of a number
-abbrev pub bitAt : ℕ → ℕ → ℕ
-bitAt k a = a / 2 ^ k % 2
-
--- "A prefix compares only its leading bits": it agrees exactly when each of the leading n of w bits is the same
-abbrev pub PrefixAgrees : Type 0
-PrefixAgrees =
-    (w n a b : ℕ) → a < 2 ^ w → b < 2 ^ w
-    → (prefixAgrees w n a b ≡ true) ↔ ((k : ℕ) → w - n ≤ k → k < w → bitAt k a ≡ bitAt k b)

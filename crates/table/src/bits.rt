@@ -39,6 +39,19 @@ pub(crate) const PROTOCOL_MARK: usize = 2;
 
 pub(crate) const PROTOCOL_AT: usize = 24;
 
+// The same of IPv6, whose addresses are words of their own.
+pub(crate) const SOURCE6_PREFIX_MARK: usize = 3;
+
+pub(crate) const SOURCE6_LENGTH_AT: usize = 32;
+
+pub(crate) const DESTINATION6_PREFIX_MARK: usize = 4;
+
+pub(crate) const DESTINATION6_LENGTH_AT: usize = 40;
+
+pub(crate) const PROTOCOL6_MARK: usize = 5;
+
+pub(crate) const PROTOCOL6_AT: usize = 48;
+
 // Transport: the ports stand beside the head word.
 pub(crate) const KIND_MARK: usize = 0;
 

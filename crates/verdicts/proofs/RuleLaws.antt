@@ -18,7 +18,7 @@ use Rattle.table.specs.Table.{bucketOf, trackingOf, isAllow}
 use Rattle.places.specs.Places.{Place, Fits}
 use Rattle.numbers.specs.Lists.{All}
 use Rattle.conversations.specs.Tracking.{tracked}
-use Rattle.places.specs.Good.{placesIn, limitIn, isIpv4}
+use Rattle.places.specs.Good.{placesIn, limitIn, fitsKind}
 use Rattle.conversations.specs.declared.Turn.{Turn}
 use Rattle.places.proofs.AgeingLaws.{places-zero, places-add, aged-length, aged-all-fit}
 use Rattle.places.proofs.PlacesLaws.{PlacesGood, places-in, places-out, places-aged}
@@ -117,7 +117,7 @@ decided-by r g l ps P a b =
     (λ e. a)
 
 pub reacted-good :
-    (r : Rule) (g : Turn) (x : RuleRecord) → LimitGood (trackingOf r) → isIpv4 (g .quad) ≡ true → recordGood r x ≡ true
+    (r : Rule) (g : Turn) (x : RuleRecord) → LimitGood (trackingOf r) → fitsKind (g .quad) ≡ true → recordGood r x ≡ true
     → recordGood r (reacted r g x .after) ≡ true
 unfolding reacted
 reacted-good r g x l v h =

@@ -133,6 +133,7 @@ fn event(n: u16, id: u64) -> usize {
         Event::MAX_CONNECTIONS => named(b"too many TCP connections ", n, id),
         Event::LINK_MISMATCH => named(b"link mismatch ", n, id),
         Event::IPV4_MISMATCH => named(b"IPv4 mismatch ", n, id),
+        Event::IPV6_MISMATCH => named(b"IPv6 mismatch ", n, id),
         Event::TCP_MISMATCH => named(b"TCP mismatch ", n, id),
         Event::UDP_MISMATCH => named(b"UDP mismatch ", n, id),
         Event::SOMEIP_MISMATCH => named(b"SOME/IP mismatch ", n, id),

@@ -94,6 +94,31 @@ fn address(a: u64) {
     number(a % 256);
 }
 
+fn prefix6(later: bool, what: &[u8], s: Prefix6Setting) -> bool {
+    let Prefix6Setting::Set(p) = s else {
+        return later;
+    };
+    name(later, what);
+    let a = p.address;
+    groups(a.high);
+    text(b":");
+    groups(a.low);
+    text(b"/");
+    number(wide8(p.length));
+    true
+}
+
+// Four groups of an IPv6 address.
+fn groups(half: u64) {
+    hex(half / 281474976710656, 4);
+    text(b":");
+    hex(half / 4294967296 % 65536, 4);
+    text(b":");
+    hex(half / 65536 % 65536, 4);
+    text(b":");
+    hex(half % 65536, 4);
+}
+
 fn kind(later: bool, s: KindSetting) -> bool {
     let KindSetting::Set(k) = s else {
         return later;
@@ -144,6 +169,15 @@ fn ipv4(later: bool, s: Ipv4Settings) -> bool {
     decimal8(later, b"protocol ", protocol, b"")
 }
 
+fn ipv6(later: bool, s: Ipv6Settings) -> bool {
+    let source = s.source;
+    let destination = s.destination;
+    let protocol = s.protocol;
+    let later = prefix6(later, b"IPv6 source ", source);
+    let later = prefix6(later, b"IPv6 destination ", destination);
+    decimal8(later, b"IPv6 protocol ", protocol, b"")
+}
+
 fn transport(later: bool, s: TransportSettings) -> bool {
     let k = s.kind;
     let source = s.source;
@@ -192,6 +226,7 @@ fn rule(r: Rule) {
     text(b"  ");
     let later = link(r.link);
     let later = ipv4(later, r.ipv4);
+    let later = ipv6(later, r.ipv6);
     let later = transport(later, r.transport);
     let later = someip(later, r.someip);
     limits(later, r.rate, r.tracking);

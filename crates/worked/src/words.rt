@@ -32,6 +32,12 @@ const IPV4_DESTINATION: u8 = SettingNumber::IPV4_DESTINATION.number;
 
 const IPV4_PROTOCOL: u8 = SettingNumber::IPV4_PROTOCOL.number;
 
+const IPV6_SOURCE: u8 = SettingNumber::IPV6_SOURCE.number;
+
+const IPV6_DESTINATION: u8 = SettingNumber::IPV6_DESTINATION.number;
+
+const IPV6_PROTOCOL: u8 = SettingNumber::IPV6_PROTOCOL.number;
+
 const KIND: u8 = SettingNumber::KIND.number;
 
 const SOURCE_PORTS: u8 = SettingNumber::SOURCE_PORTS.number;
@@ -119,6 +125,9 @@ fn above_link(n: u8) {
         IPV4_SOURCE => text(b"IPv4 source"),
         IPV4_DESTINATION => text(b"IPv4 destination"),
         IPV4_PROTOCOL => text(b"IPv4 protocol"),
+        IPV6_SOURCE => text(b"IPv6 source"),
+        IPV6_DESTINATION => text(b"IPv6 destination"),
+        IPV6_PROTOCOL => text(b"IPv6 protocol"),
         KIND => text(b"kind"),
         SOURCE_PORTS => text(b"source ports"),
         DESTINATION_PORTS => text(b"destination ports"),

@@ -81,6 +81,17 @@ fn vlan_4095() -> Table {
     with_rule(0, Rule { link: spoiled, ..r })
 }
 
+fn both_kinds() -> Table {
+    let t = table();
+    let r = t.rules[0];
+    let ipv6 = r.ipv6;
+    let spoiled = Ipv6Settings {
+        protocol: Setting8::Set(17),
+        ..ipv6
+    };
+    with_rule(0, Rule { ipv6: spoiled, ..r })
+}
+
 fn block_with_places() -> Table {
     let t = table();
     let r = t.rules[1];
@@ -150,6 +161,13 @@ pub(crate) fn tables(head: &mut Head, counts: &mut Counts, places: &mut Places) 
     refused(
         b"rule 10 with VLAN id 4095",
         vlan_4095(),
+        head,
+        counts,
+        places,
+    );
+    refused(
+        b"rule 10 with IPv6 protocol 17 too",
+        both_kinds(),
         head,
         counts,
         places,

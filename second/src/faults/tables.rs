@@ -24,13 +24,20 @@ const fn fault(name: &'static str, setting: u8, set: u32, unset: u32) -> RuleFau
 const WITHOUT_KIND: u32 = set::KIND | set::TRACKING;
 const TRACKED: u32 = set::KIND | set::TRACKING;
 
-const RULE_FAULTS: [RuleFault; 30] = [
+const RULE_FAULTS: [RuleFault; 37] = [
     fault("id-65535", setting::ID, 0, 0),
     fault("id-repeated", setting::ID, 0, 0),
     fault("vlan-above-4094", setting::VLAN, set::VLAN, 0),
     fault("priority-above-7", setting::PRIORITY, set::PRIORITY, 0),
     fault("source-prefix-above-32", setting::SOURCE, set::SOURCE, 0),
     fault("dest-prefix-above-32", setting::DESTINATION, set::DESTINATION, 0),
+    fault("source6-prefix-above-128", setting::SOURCE6, set::SOURCE6, set::IPV4),
+    fault("dest6-prefix-above-128", setting::DESTINATION6, set::DESTINATION6, set::IPV4),
+    fault("both-kinds-at-source6", setting::SOURCE6, set::SOURCE6, 0),
+    fault("both-kinds-at-dest6", setting::DESTINATION6, set::DESTINATION6, set::SOURCE6),
+    fault("both-kinds-at-protocol6", setting::PROTOCOL6, set::PROTOCOL6, set::SOURCE6 | set::DESTINATION6),
+    fault("both-kinds-and-source6-prefix", setting::SOURCE6, set::SOURCE6, 0),
+    fault("both-kinds-before-dest6-prefix", setting::SOURCE6, set::SOURCE6 | set::DESTINATION6, 0),
     fault("source-range-turned", setting::SOURCE_PORTS, set::KIND | set::SOURCE_PORTS, 0),
     fault("dest-range-turned", setting::DEST_PORTS, set::KIND | set::DEST_PORTS, 0),
     fault("source-ports-without-kind", setting::SOURCE_PORTS, set::SOURCE_PORTS, WITHOUT_KIND),
@@ -96,6 +103,17 @@ impl RuleFault {
             "priority-above-7" => rule.priority = random.pick(&[8, 255]),
             "source-prefix-above-32" => rule.source.length = random.pick(&[33, 64, 255]),
             "dest-prefix-above-32" => rule.destination.length = random.pick(&[33, 64, 255]),
+            "source6-prefix-above-128" => rule.source6.length = above_128(random),
+            "dest6-prefix-above-128" => rule.destination6.length = above_128(random),
+            "both-kinds-at-source6" | "both-kinds-at-dest6" | "both-kinds-at-protocol6" => set_ipv4(rule, random),
+            "both-kinds-and-source6-prefix" => {
+                set_ipv4(rule, random);
+                rule.source6.length = above_128(random);
+            }
+            "both-kinds-before-dest6-prefix" => {
+                set_ipv4(rule, random);
+                rule.destination6.length = above_128(random);
+            }
             "source-range-turned" | "source-range-turned-without-kind" => rule.sports = turned(random),
             "dest-range-turned" | "dest-range-turned-without-kind" => rule.dports = turned(random),
             // What is set and what is not is fault enough.
@@ -117,6 +135,15 @@ impl RuleFault {
             _ => {}
         }
     }
+}
+
+fn above_128(random: &mut Random) -> u8 {
+    random.pick(&[129, 129, 255])
+}
+
+/// One setting of IPv4, whose value is good.
+fn set_ipv4(rule: &mut Rule, random: &mut Random) {
+    rule.set |= random.pick(&[set::SOURCE, set::DESTINATION, set::PROTOCOL]);
 }
 
 fn turned(random: &mut Random) -> Range {
@@ -173,6 +200,10 @@ impl BadTable {
         all.extend([true, false].map(|rising| BadTable::TwoRules { rising }));
         all.push(BadTable::CountAndRule);
         all
+    }
+
+    pub fn has_one_fault(&self) -> bool {
+        matches!(self, BadTable::InRule(_) | BadTable::InStates(_) | BadTable::TooManyRules)
     }
 
     /// What the reach report calls it.

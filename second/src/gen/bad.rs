@@ -7,6 +7,7 @@ impl<W: Write> Gen<W> {
     pub(super) fn high_records(&mut self) -> io::Result<()> {
         let mut records = self.records.clone();
         let near = |random: &mut Random| u32::MAX - random.pick(&[1, 1, 2]);
+        records.last = self.now;
         records.default.passed = near(&mut self.random);
         records.default.blocked = near(&mut self.random);
         for place in 0..RULES {
@@ -28,7 +29,7 @@ impl<W: Write> Gen<W> {
         self.print()?;
         // From one end of the clock to the other, with no rule active: refill times elapsed leaves 64 bits.
         self.switch(1)?;
-        for reading in [0, 0, u64::MAX, u64::MAX] {
+        for reading in [0, 0, u64::MAX, u64::MAX, u64::MAX] {
             self.now = reading;
             self.aimed()?;
         }
@@ -38,8 +39,10 @@ impl<W: Write> Gen<W> {
     fn high_rule(&mut self, records: &mut Records, place: usize) {
         let rule = self.table.rules[place];
         if rule.has(set::RATE) {
-            // 0 twice, so that a short stream too meets a level at the highest
-            records.levels[place] = HIGHEST_LEVEL - self.random.pick(&[0, 0, 1, 999, 1_000, 1_001, 3_000]);
+            // The first one is at the highest, so that a short stream too meets it.
+            let first = !records.levels[..place].iter().any(|level| *level > HIGHEST_LEVEL / 2);
+            let below = self.random.pick(&[0, 1, 999, 1_000, 1_001, 3_000]);
+            records.levels[place] = HIGHEST_LEVEL - if first { 0 } else { below };
         }
         if !rule.has(set::TRACKING) {
             return;
@@ -47,8 +50,7 @@ impl<W: Write> Gen<W> {
         for slot in 0..usize::from(rule.places) {
             records.free(place, slot);
             let draft = aim(&rule, &mut self.random);
-            let (source, destination) = (draft.source, draft.destination);
-            let quadruple = Quadruple::new(source, destination, draft.sport, draft.dport);
+            let quadruple = Quadruple::new(draft.addresses(), draft.sport, draft.dport);
             if records.find(place, quadruple).is_some() {
                 continue;
             }
@@ -83,7 +85,7 @@ impl<W: Write> Gen<W> {
             self.switch(state)?;
         }
         if self.random.chance(30) {
-            self.odd_length()?;
+            self.odd_length(false)?;
         }
         if self.random.chance(30) {
             self.aimed()?;

@@ -25,7 +25,7 @@ impl<W: Write> Gen<W> {
         draft.flags = flags;
         if let Some(slot) = self.slot_held_as(place, held) {
             let of = self.records.conversations[place][slot].quadruple;
-            (draft.source, draft.destination) = (of.source, of.destination);
+            draft.set_addresses(of.addresses);
             (draft.sport, draft.dport) = (of.sport(), of.dport());
         }
         if self.random.chance(5) {

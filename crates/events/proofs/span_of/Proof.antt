@@ -1,3 +1,5 @@
+-- `events::span_of` meets its contract.
+-- Assumes nothing.
 use mathlib.Core.Path.{sym, ap}
 use Rattle.events.specs.Arrays.{spanOf}
 use borrow.Author.Needs.{needs}
@@ -31,17 +33,23 @@ ipv4-span-requires c κs = search needs
 enum-told-6 : tie.Need-enum-told-6
 enum-told-6 c = search needs
 
-tcp-span-requires-2 : tie.Need-tcp-span-requires-2
-tcp-span-requires-2 c κs = search needs
+ipv6-span-requires : tie.Need-ipv6-span-requires
+ipv6-span-requires c κs = search needs
 
 enum-told-7 : tie.Need-enum-told-7
 enum-told-7 c = search needs
 
-udp-span-requires : tie.Need-udp-span-requires
-udp-span-requires c κs = search needs
+tcp-span-requires-2 : tie.Need-tcp-span-requires-2
+tcp-span-requires-2 c κs = search needs
 
 enum-told-8 : tie.Need-enum-told-8
 enum-told-8 c = search needs
+
+udp-span-requires : tie.Need-udp-span-requires
+udp-span-requires c κs = search needs
+
+enum-told-9 : tie.Need-enum-told-9
+enum-told-9 c = search needs
 
 someip-span-requires : tie.Need-someip-span-requires
 someip-span-requires c κs = search needs
@@ -70,6 +78,9 @@ returns-7 c = search needs
 returns-8 : tie.Need-returns-8
 returns-8 c = search needs
 
+returns-9 : tie.Need-returns-9
+returns-9 c = search needs
+
 pub span-of-spec : {M : Type 1} → statement M
 span-of-spec =
     tie.close
@@ -83,10 +94,12 @@ span-of-spec =
     enum-told-5
     ipv4-span-requires
     enum-told-6
-    tcp-span-requires-2
+    ipv6-span-requires
     enum-told-7
-    udp-span-requires
+    tcp-span-requires-2
     enum-told-8
+    udp-span-requires
+    enum-told-9
     someip-span-requires
     returns
     returns-2
@@ -95,4 +108,5 @@ span-of-spec =
     returns-5
     returns-6
     returns-7
-    returns-8)
+    returns-8
+    returns-9)

@@ -1,6 +1,6 @@
 use mathlib.Core.Path.{refl, sym}
 use Rattle.faults.specs.Faults.{marksGood}
-use Rattle.table.proofs.Prefixes.{shifted-out}
+use Rattle.table.proofs.Shifts.{shifted-out}
 use borrow.Author.Needs.{needs}
 use Rattle.faults.proofs.marks_good.Statement.{statement}
 use Rattle.faults.proofs.marks_good.Tie as tie

@@ -3,10 +3,10 @@ use denote.Ref.{now}
 use mathlib.Core.Path.{refl, sym, _∙_}
 use mathlib.Core.List.{List}
 use Rattle.ranges.proofs.Tests.{block-stops, block-goes}
-use Rattle.ranges.specs.Ranges.{Test, headTests, linkTests, ipv4Tests, transportTests, rateTests, ruleTests}
+use Rattle.ranges.specs.Ranges.{Test, headTests, linkTests, ipTests, transportTests, rateTests, ruleTests}
 use Rattle.table.specs.Words.{ruleIn}
 use Rattle.table.specs.declared.Rule.{Rule}
-use Rattle.ranges.proofs.Rules.{Reached, fromLink, fromIpv4, fromTransport, fromSomeip, fromRate, fromTracking, at-head, past-someip}
+use Rattle.ranges.proofs.Rules.{Reached, fromLink, fromIp, fromTransport, fromSomeip, fromRate, fromTracking, at-head, past-someip}
 use borrow.Author.Needs.{needs}
 use Rattle.ranges.proofs.rule_fault.Statement.{statement}
 use Rattle.ranges.proofs.rule_fault.Tie as tie
@@ -27,21 +27,21 @@ past-head c =
     let q = c .before .before .before in
     block-goes (tests q) (headTests (q .args .fresh) (ruleOf q)) (fromLink (ruleOf q)) refl (at-head (q .args .fresh) (ruleOf q)) (c .before .before .head-fault .ensures) (c .if1 .left)
 
-past-link : (c : tie.Else2) → let q = c .before .before .before .before .before .before in Past q (fromIpv4 (ruleOf q))
+past-link : (c : tie.Else2) → let q = c .before .before .before .before .before .before in Past q (fromIp (ruleOf q))
 past-link c =
     let q = c .before .before .before .before .before .before in
-    block-goes (tests q) (linkTests (ruleOf q .link)) (fromIpv4 (ruleOf q)) refl (past-head (c .before .before .before)) (c .before .before .link-in-row .ensures) (c .if2 .left)
+    block-goes (tests q) (linkTests (ruleOf q .link)) (fromIp (ruleOf q)) refl (past-head (c .before .before .before)) (c .before .before .link-in-row .ensures) (c .if2 .left)
 
-past-ipv4 : (c : tie.Else3) → let q = c .before .before .before .before .before .before .before .before .before in Past q (fromTransport (ruleOf q))
-past-ipv4 c =
+past-ip : (c : tie.Else3) → let q = c .before .before .before .before .before .before .before .before .before in Past q (fromTransport (ruleOf q))
+past-ip c =
     let q = c .before .before .before .before .before .before .before .before .before in
-    block-goes (tests q) (ipv4Tests (ruleOf q .ipv4)) (fromTransport (ruleOf q)) refl (past-link (c .before .before .before)) (c .before .before .ipv4-in-row .ensures) (c .if3 .left)
+    block-goes (tests q) (ipTests (ruleOf q .ipv4) (ruleOf q .ipv6)) (fromTransport (ruleOf q)) refl (past-link (c .before .before .before)) (c .before .before .ip-in-row .ensures) (c .if3 .left)
 
 past-transport : (c : tie.Else4) → let q = c .before .before .before .before .before .before .before .before .before .before .before .before in Past q (fromRate (ruleOf q))
 past-transport c =
     let q = c .before .before .before .before .before .before .before .before .before .before .before .before in
     past-someip (q .args .fresh) (ruleOf q)
-    (block-goes (tests q) (transportTests (ruleOf q .transport)) (fromSomeip (ruleOf q)) refl (past-ipv4 (c .before .before .before)) (c .before .before .transport-in-row .ensures) (c .if4 .left))
+    (block-goes (tests q) (transportTests (ruleOf q .transport)) (fromSomeip (ruleOf q)) refl (past-ip (c .before .before .before)) (c .before .before .transport-in-row .ensures) (c .if4 .left))
 
 past-rate : (c : tie.Else5) → let q = c .before .before .before .before .before .before .before .before .before .before .before .before .before .before .before in Past q (fromTracking (ruleOf q))
 past-rate c =
@@ -62,15 +62,15 @@ link-in-row-requires c κs = search needs
 returns-2 : tie.Need-returns-2
 returns-2 c =
     let q = c .before .before .before .before .before .before in
-    block-stops (tests q) (linkTests (ruleOf q .link)) (fromIpv4 (ruleOf q)) (past-head (c .before .before .before)) (c .before .before .link-in-row .ensures) (c .if2 .taken)
+    block-stops (tests q) (linkTests (ruleOf q .link)) (fromIp (ruleOf q)) (past-head (c .before .before .before)) (c .before .before .link-in-row .ensures) (c .if2 .taken)
 
-ipv4-in-row-requires : tie.Need-ipv4-in-row-requires
-ipv4-in-row-requires c κs = search needs
+ip-in-row-requires : tie.Need-ip-in-row-requires
+ip-in-row-requires c κs = search needs
 
 returns-3 : tie.Need-returns-3
 returns-3 c =
     let q = c .before .before .before .before .before .before .before .before .before in
-    block-stops (tests q) (ipv4Tests (ruleOf q .ipv4)) (fromTransport (ruleOf q)) (past-link (c .before .before .before)) (c .before .before .ipv4-in-row .ensures) (c .if3 .taken)
+    block-stops (tests q) (ipTests (ruleOf q .ipv4) (ruleOf q .ipv6)) (fromTransport (ruleOf q)) (past-link (c .before .before .before)) (c .before .before .ip-in-row .ensures) (c .if3 .taken)
 
 transport-in-row-requires : tie.Need-transport-in-row-requires
 transport-in-row-requires c κs = search needs
@@ -78,7 +78,7 @@ transport-in-row-requires c κs = search needs
 returns-4 : tie.Need-returns-4
 returns-4 c =
     let q = c .before .before .before .before .before .before .before .before .before .before .before .before in
-    block-stops (tests q) (transportTests (ruleOf q .transport)) (fromSomeip (ruleOf q)) (past-ipv4 (c .before .before .before)) (c .before .before .transport-in-row .ensures) (c .if4 .taken)
+    block-stops (tests q) (transportTests (ruleOf q .transport)) (fromSomeip (ruleOf q)) (past-ip (c .before .before .before)) (c .before .before .transport-in-row .ensures) (c .if4 .taken)
 
 rate-in-row-requires : tie.Need-rate-in-row-requires
 rate-in-row-requires c κs = search needs
@@ -102,7 +102,7 @@ rule-fault-spec =
     returns
     link-in-row-requires
     returns-2
-    ipv4-in-row-requires
+    ip-in-row-requires
     returns-3
     transport-in-row-requires
     returns-4

@@ -30,12 +30,6 @@ index-1-conversation c = search needs
 conversation-requires : tie.Need-conversation-requires Inv-loop μ-loop
 conversation-requires c κs = search needs
 
-slice-aggregate-line : tie.Need-slice-aggregate-line Inv-loop μ-loop
-slice-aggregate-line c = search needs
-
-line-requires : tie.Need-line-requires Inv-loop μ-loop
-line-requires c κs = search needs
-
 add-j : tie.Need-add-j Inv-loop μ-loop
 add-j c = search needs
 
@@ -61,8 +55,6 @@ conversations-spec =
     mul-conversation
     index-1-conversation
     conversation-requires
-    slice-aggregate-line
-    line-requires
     add-j
     loop-less
     loop-again

@@ -1,4 +1,4 @@
--- `conversations::stamps::stamp` meets its contract.
+-- `goodness::stamps::stamp` meets its contract.
 -- Assumes nothing.
 use mathlib.Core.Path.{refl}
 use Rattle.goodness.specs.Stamps.{stampOf}
@@ -18,6 +18,15 @@ element-copy-out-destination c = search needs
 mul-destination : tie.Need-mul-destination
 mul-destination c = search needs
 
+element-copy-out-above : tie.Need-element-copy-out-above
+element-copy-out-above c = search needs
+
+element-copy-out-above-2 : tie.Need-element-copy-out-above-2
+element-copy-out-above-2 c = search needs
+
+element-copy-out-above-3 : tie.Need-element-copy-out-above-3
+element-copy-out-above-3 c = search needs
+
 element-copy-out-result : tie.Need-element-copy-out-result
 element-copy-out-result c = search needs
 
@@ -33,5 +42,8 @@ stamp-spec =
     mul-source
     element-copy-out-destination
     mul-destination
+    element-copy-out-above
+    element-copy-out-above-2
+    element-copy-out-above-3
     element-copy-out-result
     returns)

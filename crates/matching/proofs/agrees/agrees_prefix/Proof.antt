@@ -8,8 +8,8 @@ enum-told c = search needs
 enum-known-s : tie.Need-enum-known-s
 enum-known-s c = search needs
 
-prefix-agrees-requires : tie.Need-prefix-agrees-requires
-prefix-agrees-requires c κs = search needs
+prefix32-agrees-requires : tie.Need-prefix32-agrees-requires
+prefix32-agrees-requires c κs = search needs
 
 returns : tie.Need-returns
 returns c = search needs
@@ -19,4 +19,4 @@ returns-2 c = cc
 
 pub agrees-prefix-spec : {M : Type 1} → statement M
 agrees-prefix-spec =
-    tie.close (tie.spec enum-told enum-known-s prefix-agrees-requires returns returns-2)
+    tie.close (tie.spec enum-told enum-known-s prefix32-agrees-requires returns returns-2)

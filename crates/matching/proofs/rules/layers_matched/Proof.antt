@@ -1,10 +1,9 @@
 use mathlib.Core.Path.{_≡_, refl, ap, _∙_}
-use Rattle.table.specs.Words.{linkIn, ipv4In, transportIn, someipIn}
+use Rattle.table.specs.Words.{linkIn, ipv4In, ipv6In, transportIn, someipIn}
 use Rattle.table.specs.declared.LinkSettings.{LinkSettings}
-use Rattle.table.specs.declared.Ipv4Settings.{Ipv4Settings}
 use Rattle.table.specs.declared.TransportSettings.{TransportSettings}
 use Rattle.table.specs.declared.SomeipSettings.{SomeipSettings}
-use Rattle.matching.specs.Matching.{linkMatches, ipv4Matches, transportMatches, someipMatches, layerTests}
+use Rattle.matching.specs.Matching.{linkMatches, ipMatches, transportMatches, someipMatches, layerTests}
 use Rattle.numbers.proofs.Leading.{count-goes}
 use Rattle.numbers.proofs.Tests.{cond-stops}
 use borrow.Author.Needs.{needs}
@@ -15,24 +14,27 @@ use Rattle.matching.proofs.rules.layers_matched.Tie as tie
 link-told : (c : tie.After-link-matches) → c .link-matches .result ≡ linkMatches (linkIn (c .before .before .before .args .r .now)) (c .before .before .before .args .l .link)
 link-told c = c .link-matches .ensures ∙ ap (λ (x : LinkSettings). linkMatches x (c .before .before .before .args .l .link)) (c .before .link .ensures)
 
-ipv4-told : (c : tie.After-ipv4-matches) → c .ipv4-matches .result ≡ ipv4Matches (ipv4In (c .before .before .before .before .before .before .args .r .now)) (c .before .before .before .before .before .before .args .l .ip)
-ipv4-told c = c .ipv4-matches .ensures ∙ ap (λ (x : Ipv4Settings). ipv4Matches x (c .before .before .before .before .before .before .args .l .ip)) (c .before .ipv4 .ensures)
+ip-told :
+    (c : tie.After-ip-matches)
+    → c .ip-matches .result
+    ≡ ipMatches (ipv4In (c .before .before .before .before .before .args .r .now)) (ipv6In (c .before .before .before .before .before .args .r .now)) (c .before .before .before .before .before .args .l .ip)
+ip-told c = c .ip-matches .ensures
 
 transport-told :
     (c : tie.After-transport-matches)
     → c .transport-matches .result
-    ≡ transportMatches (transportIn (c .before .before .before .before .before .before .before .before .before .args .r .now)) (c .before .before .before .before .before .before .before .before .before .args .l .transport)
+    ≡ transportMatches (transportIn (c .before .before .before .before .before .before .before .before .args .r .now)) (c .before .before .before .before .before .before .before .before .args .l .transport)
 transport-told c =
     c .transport-matches .ensures
-    ∙ ap (λ (x : TransportSettings). transportMatches x (c .before .before .before .before .before .before .before .before .before .args .l .transport)) (c .before .transport .ensures)
+    ∙ ap (λ (x : TransportSettings). transportMatches x (c .before .before .before .before .before .before .before .before .args .l .transport)) (c .before .transport .ensures)
 
 someip-told :
     (c : tie.After-someip-matches)
     → c .someip-matches .result
-    ≡ someipMatches (someipIn (c .before .before .before .before .before .before .before .before .before .before .before .before .args .r .now)) (c .before .before .before .before .before .before .before .before .before .before .before .before .args .s .now) (c .before .before .before .before .before .before .before .before .before .before .before .before .args .l .someip)
+    ≡ someipMatches (someipIn (c .before .before .before .before .before .before .before .before .before .before .before .args .r .now)) (c .before .before .before .before .before .before .before .before .before .before .before .args .s .now) (c .before .before .before .before .before .before .before .before .before .before .before .args .l .someip)
 someip-told c =
     c .someip-matches .ensures
-    ∙ ap (λ (x : SomeipSettings). someipMatches x (c .before .before .before .before .before .before .before .before .before .before .before .before .args .s .now) (c .before .before .before .before .before .before .before .before .before .before .before .before .args .l .someip)) (c .before .someip .ensures)
+    ∙ ap (λ (x : SomeipSettings). someipMatches x (c .before .before .before .before .before .before .before .before .before .before .before .args .s .now) (c .before .before .before .before .before .before .before .before .before .before .before .args .l .someip)) (c .before .someip .ensures)
 
 link-requires : tie.Need-link-requires
 link-requires c κs = search needs
@@ -44,17 +46,14 @@ returns : tie.Need-returns
 unfolding layerTests
 returns c = cond-stops _ (link-told (c .before)) (c .if1 .taken)
 
-ipv4-requires : tie.Need-ipv4-requires
-ipv4-requires c κs = search needs
-
-ipv4-matches-requires : tie.Need-ipv4-matches-requires
-ipv4-matches-requires c κs = search needs
+ip-matches-requires : tie.Need-ip-matches-requires
+ip-matches-requires c κs = search needs
 
 returns-2 : tie.Need-returns-2
 unfolding layerTests
 returns-2 c =
-    let a = c .before .before .before in
-    count-goes (link-told (a .before)) (a .if1 .left) (cond-stops _ (ipv4-told (c .before)) (c .if2 .taken))
+    let a = c .before .before in
+    count-goes (link-told (a .before)) (a .if1 .left) (cond-stops _ (ip-told (c .before)) (c .if2 .taken))
 
 transport-requires : tie.Need-transport-requires
 transport-requires c κs = search needs
@@ -66,9 +65,9 @@ returns-3 : tie.Need-returns-3
 unfolding layerTests
 returns-3 c =
     let b = c .before .before .before in
-    let a = b .before .before .before in
+    let a = b .before .before in
     count-goes (link-told (a .before)) (a .if1 .left)
-    (count-goes (ipv4-told (b .before)) (b .if2 .left) (cond-stops _ (transport-told (c .before)) (c .if3 .taken)))
+    (count-goes (ip-told (b .before)) (b .if2 .left) (cond-stops _ (transport-told (c .before)) (c .if3 .taken)))
 
 someip-requires : tie.Need-someip-requires
 someip-requires c κs = search needs
@@ -81,9 +80,9 @@ unfolding layerTests
 returns-4 c =
     let d = c .before .before .before in
     let b = d .before .before .before in
-    let a = b .before .before .before in
+    let a = b .before .before in
     count-goes (link-told (a .before)) (a .if1 .left)
-    (count-goes (ipv4-told (b .before)) (b .if2 .left)
+    (count-goes (ip-told (b .before)) (b .if2 .left)
     (count-goes (transport-told (d .before)) (d .if3 .left) (cond-stops _ (someip-told (c .before)) (c .if4 .taken))))
 
 returns-5 : tie.Need-returns-5
@@ -91,9 +90,9 @@ unfolding layerTests
 returns-5 c =
     let d = c .before .before .before in
     let b = d .before .before .before in
-    let a = b .before .before .before in
+    let a = b .before .before in
     count-goes (link-told (a .before)) (a .if1 .left)
-    (count-goes (ipv4-told (b .before)) (b .if2 .left)
+    (count-goes (ip-told (b .before)) (b .if2 .left)
     (count-goes (transport-told (d .before)) (d .if3 .left) (count-goes (someip-told (c .before)) (c .if4 .left) refl)))
 
 pub layers-matched-spec : {M : Type 1} → statement M
@@ -103,8 +102,7 @@ layers-matched-spec =
     link-requires
     link-matches-requires
     returns
-    ipv4-requires
-    ipv4-matches-requires
+    ip-matches-requires
     returns-2
     transport-requires
     transport-matches-requires

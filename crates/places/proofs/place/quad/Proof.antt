@@ -1,6 +1,6 @@
--- `conversations::place::quad` meets its contract.
+-- `places::place::quad` meets its contract.
 -- Assumes nothing.
-use lib.ListN.{getD}
+use Rattle.places.specs.Places.{placeOf}
 use borrow.Author.Needs.{needs}
 use Rattle.places.proofs.place.quad.Statement.{statement}
 use Rattle.places.proofs.place.quad.Tie as tie
@@ -8,8 +8,17 @@ use Rattle.places.proofs.place.quad.Tie as tie
 element-copy-out-t4 : tie.Need-element-copy-out-t4
 element-copy-out-t4 c = search needs
 
-element-copy-out-t7 : tie.Need-element-copy-out-t7
-element-copy-out-t7 c = search needs
+element-copy-out-t10 : tie.Need-element-copy-out-t10
+element-copy-out-t10 c = search needs
+
+element-copy-out-t13 : tie.Need-element-copy-out-t13
+element-copy-out-t13 c = search needs
+
+element-copy-out-t17 : tie.Need-element-copy-out-t17
+element-copy-out-t17 c = search needs
+
+element-copy-out-t20 : tie.Need-element-copy-out-t20
+element-copy-out-t20 c = search needs
 
 element-copy-out-high32 : tie.Need-element-copy-out-high32
 element-copy-out-high32 c = search needs
@@ -18,16 +27,19 @@ high32-requires : tie.Need-high32-requires
 high32-requires c κs = search needs
 
 returns : tie.Need-returns
-returns c = let w = c .before .before .before .before .args .p .now in
-    let e = c .high32 .ensures in
-    λ i. record { source = getD w 3 0; destination = getD w 5 0; ports = e i }
+returns c =
+    let q = placeOf (c .before .before .before .before .before .before .before .args .p .now) .quad in
+    λ i. record { ipv6 = q .ipv6; source = q .source; destination = q .destination; ports = c .high32 .ensures i }
 
 pub quad-spec : {M : Type 1} → statement M
 quad-spec =
     tie.close
     (tie.spec
     element-copy-out-t4
-    element-copy-out-t7
+    element-copy-out-t10
+    element-copy-out-t13
+    element-copy-out-t17
+    element-copy-out-t20
     element-copy-out-high32
     high32-requires
     returns)
