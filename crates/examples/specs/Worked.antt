@@ -265,13 +265,13 @@ pub record Ran : Type 0 where
   pub words : Lent
 
 -- the values looked at
-abbrev pub present : Ip → ℕ
-present ip.Absent = 0
-present (ip.V4 p) = 1
-present (ip.V6 p) = 0
+abbrev pub isIpv4 : Ip → ℕ
+isIpv4 ip.Absent = 0
+isIpv4 (ip.V4 p) = 1
+isIpv4 (ip.V6 p) = 0
 
 abbrev pub ipv4In : Item → ℕ
-ipv4In (arrives a space) = present (layersOf (a .bytes) .ip)
+ipv4In (arrives a space) = isIpv4 (layersOf (a .bytes) .ip)
 ipv4In (switches state) = 0
 
 abbrev pub placeAt : Lent → ℕ → ℕ → Place

@@ -11,7 +11,7 @@ use native.Mathlib.Omega.{arith}
 use borrow.Author.Tests.{lt-ltb, le-ltb, ltb-true, eq-eqb, ne-eqb, eqb-true, not-true}
 use Rattle.numbers.specs.Lists.{every, allBelow}
 use Rattle.numbers.proofs.Lists.{and-both, and-true-true, every-at, below-at, below-all}
-use Rattle.places.specs.Places.{Place, free, isFree, kindOf, placeOf, placesOf, holds}
+use Rattle.places.specs.Places.{Place, free, isFree, kindNumber, placeOf, placesOf, holds}
 use Rattle.places.specs.Good.{isNothing, has32, fitsKind, isPlain, isZero, isBlank, clean, isFresh, placeGood, eachGood, repeats, alone, once, placesTests}
 use Rattle.places.specs.Good as laws
 use Rattle.places.specs.declared.Quad.{Quad}
@@ -114,7 +114,7 @@ module _ (w : List ℕ) where
 
   -- a word is zero where its parts are
   held-zero : getD w 0 0 % 4 ≡ 0 → eqb (getD w 0 0 / 4 % 2) 1 ≡ false → getD w 0 0 / 8 % 2 ≡ 0 → getD w 0 0 / 16 ≡ 0 → getD w 0 0 ≡ 0
-  held-zero s k o a = sym (held-back (getD w 0 0)) ∙ (λ i. s i + 4 * kindOf (k i) + 8 * o i + 16 * a i)
+  held-zero s k o a = sym (held-back (getD w 0 0)) ∙ (λ i. s i + 4 * kindNumber (k i) + 8 * o i + 16 * a i)
 
   ports-zero : getD w 1 0 % 2 ^ 32 ≡ 0 → getD w 1 0 / 2 ^ 32 ≡ 0 → getD w 1 0 ≡ 0
   ports-zero x y = sym (ports-back (getD w 1 0)) ∙ (λ i. x i + 2 ^ 32 * y i)

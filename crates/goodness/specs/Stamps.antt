@@ -12,12 +12,12 @@ use Rattle.places.specs.Places.{Place, free, isFree}
 use Rattle.table.specs.Table.{mostPlaces}
 use Rattle.places.specs.declared.Quad.{Quad}
 
--- the stamp of a conversation: of all that a sender can vary, in 64 bits
+-- the stamp of a conversation: of all its bits, in 64
 unfoldable pub stampOf : Quad → ℕ
 stampOf q =
     bitXor
     (bitXor (bitXor (q .source .low % 2 ^ 32 * 2 ^ 32) (q .destination .low % 2 ^ 48 * 2 ^ 16))
-    (bitXor (bitXor (q .source .high) (q .source .low / 2 ^ 32)) (q .destination .high)))
+    (bitXor (bitXor (bitXor (q .source .high) (q .source .low / 2 ^ 32)) (q .destination .high)) (q .destination .low / 2 ^ 48)))
     (q .ports)
 
 -- the stamp of the place at j: a free one has its number

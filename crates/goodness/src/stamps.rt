@@ -10,18 +10,18 @@ use table::PLACES;
 
 pub(crate) type Stamps = [u64; PLACES];
 
-// 48 bits of the destination go in, 16 bits up. Of an IPv6 address all other bits go in too, where those of an IPv4 address are zero.
+// Of the destination's low word 48 bits go in 16 bits up, and those above them below.
 const KEPT: u64 = 281474976710656;
 
 const LIFT: u64 = 65536;
 
-// All that a sender can vary goes in, or he chooses conversations of one stamp.
+// All bits go in: of IPv4 conversations with one destination no two have one stamp. Who chooses IPv6 addresses can choose such, which costs time and no answer.
 fn stamp(p: &PlaceWords) -> u64
     ensures { λ r. ⌜ r ≡ stampOf (placeOf (now (p .entry)) .quad) ⌝ }
 {
     let source = p[SOURCE] % HALF * HALF;
     let destination = p[DESTINATION] % KEPT * LIFT;
-    let above = p[SOURCE_HIGH] ^ (p[SOURCE] / HALF) ^ p[DESTINATION_HIGH];
+    let above = p[SOURCE_HIGH] ^ (p[SOURCE] / HALF) ^ p[DESTINATION_HIGH] ^ (p[DESTINATION] / KEPT);
     source ^ destination ^ above ^ (p[BOTH_PORTS] / HALF)
 }
 

@@ -15,7 +15,6 @@ use Rattle.packets.specs.Ip.{
   ipv4Type,
   ipv4Bytes,
   leastWords,
-  version,
   headerWords,
   headerLength,
   totalLength,
@@ -24,7 +23,7 @@ use Rattle.packets.specs.Ip.{
   packetAt,
   ipOf,
 }
-use Rattle.packets.specs.Ipv6.{ipv6Here, packet6At}
+use Rattle.packets.specs.Ipv6.{version, ipv6Here, packet6At}
 use Rattle.packets.specs.declared.Packet.{Packet}
 use Rattle.packets.specs.declared.Ip.the-variants as ip
 

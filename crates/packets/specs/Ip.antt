@@ -1,13 +1,13 @@
 -- 01, "What a frame shows", IPv4, and the IP layer of either kind: in the rest of the frame s that starts at `at`.
 -- Assumes nothing.
-use Prim.Native.Nat.{ℕ, _+_, _-_, _*_, _/_, _%_}
+use Prim.Native.Nat.{ℕ, _+_, _-_, _*_, _%_}
 use mathlib.Core.List.{List, [], _∷_}
 use mathlib.Core.Bool.{Bool, cond}
 use lib.ListN.{length}
 use lib.Dec.{leb, eqb}
 use Rattle.numbers.specs.Bytes.{byte, be16, be32, onesSum}
 use Rattle.numbers.specs.Lists.{every}
-use Rattle.packets.specs.Ipv6.{ipv6Here, packet6At}
+use Rattle.packets.specs.Ipv6.{version, ipv6Here, packet6At}
 use Rattle.packets.specs.declared.Packet.{Packet}
 use Rattle.packets.specs.declared.Ip.{Ip}
 use Rattle.packets.specs.declared.Ip.the-variants as ip
@@ -35,10 +35,7 @@ ipv4Bytes = 20
 abbrev pub leastWords : ℕ
 leastWords = 5
 
--- "version", "header words", "four times that", "the total length"
-abbrev pub version : List ℕ → ℕ → ℕ
-version s at = byte s at / 16
-
+-- "header words", "four times that", "the total length"
 abbrev pub headerWords : List ℕ → ℕ → ℕ
 headerWords s at = byte s at % 16
 

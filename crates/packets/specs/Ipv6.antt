@@ -32,7 +32,7 @@ ipv6Type = 0x86DD
 abbrev pub ipv6Bytes : ℕ
 ipv6Bytes = 40
 
--- "the version", "the payload length"
+-- "the version", which IPv4 has in the same place; "the payload length"
 abbrev pub version : List ℕ → ℕ → ℕ
 version s at = byte s at / 16
 

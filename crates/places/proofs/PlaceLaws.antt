@@ -6,7 +6,7 @@ use mathlib.Core.Path.{_≡_, refl, ap, ap₂, _∙_}
 use mathlib.Core.Bool.{Bool, true, false}
 use mathlib.Core.List.{List, [], _∷_}
 use lib.ListN.{getD, set, List·getD-map}
-use Rattle.places.specs.Places.{Place, free, ipv4Quad, ipv6Quad, kindOf, placeOf, placesOf, placeWords, placesWords, Fits, ShapedPlace, phaseWord}
+use Rattle.places.specs.Places.{Place, free, ipv4Quad, ipv6Quad, kindNumber, placeOf, placesOf, placeWords, placesWords, Fits, ShapedPlace, phaseWord}
 use Rattle.numbers.specs.Lists.{All}
 use Rattle.places.specs.Ageing.{withAge}
 use Rattle.flags.specs.declared.Phase.{Phase}
@@ -23,18 +23,18 @@ use lib.Dec.{eqb}
 -- ---- the kind and its number
 
 -- a bit is the number of the kind that it says
-kind-number : (n : ℕ) → kindOf (eqb (n % 2) 1) ≡ n % 2
+kind-number : (n : ℕ) → kindNumber (eqb (n % 2) 1) ≡ n % 2
 kind-number n =
     by-less (n % 2) 1 (λ h. let z : n % 2 ≡ 0 = omega arith in rw z) (λ h. let z : n % 2 ≡ 1 = omega arith in rw z)
 
 -- and the kind is read from its number
-kind-back : (ipv6 : Bool) → eqb (kindOf ipv6) 1 ≡ ipv6
+kind-back : (ipv6 : Bool) → eqb (kindNumber ipv6) 1 ≡ ipv6
 kind-back true = refl
 kind-back false = refl
 
 -- ---- from words and back
 
-pub held-back : (n : ℕ) → n % 4 + 4 * kindOf (eqb (n / 4 % 2) 1) + 8 * (n / 8 % 2) + 16 * (n / 16) ≡ n
+pub held-back : (n : ℕ) → n % 4 + 4 * kindNumber (eqb (n / 4 % 2) 1) + 8 * (n / 8 % 2) + 16 * (n / 16) ≡ n
 held-back n = omega (arith, kind-number (n / 4))
 
 pub ports-back : (n : ℕ) → n % 2 ^ 32 + 2 ^ 32 * (n / 2 ^ 32) ≡ n
@@ -59,7 +59,7 @@ place-same p h = λ i. record {
 }
   where
     k : ℕ
-    k = kindOf (p .quad .ipv6)
+    k = kindNumber (p .quad .ipv6)
 
     most : k ≤ 1
     most = flag-le (p .quad .ipv6)

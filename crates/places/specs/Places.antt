@@ -89,8 +89,8 @@ phaseWord phase.Running = 2
 phaseWord phase.Closing = 3
 
 -- the number of a kind
-abbrev pub kindOf : Bool → ℕ
-kindOf ipv6 = cond ipv6 1 0
+abbrev pub kindNumber : Bool → ℕ
+kindNumber ipv6 = cond ipv6 1 0
 
 -- "A passed frame sets its conversation's age to 0"
 abbrev pub heldAs : Quad → Phase → Place
@@ -149,7 +149,7 @@ placesOf ps = map placeOf ps
 -- and back: every six words are the words of the place that they say
 abbrev pub placeWords : Place → List ℕ
 placeWords p =
-    (p .state + kindBit * kindOf (p .quad .ipv6) + socketBit * p .unused .socket + ageBit * p .age)
+    (p .state + kindBit * kindNumber (p .quad .ipv6) + socketBit * p .unused .socket + ageBit * p .age)
     ∷ (p .unused .expected + 2 ^ 32 * p .quad .ports)
     ∷ p .quad .source .high
     ∷ p .quad .source .low

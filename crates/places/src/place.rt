@@ -13,7 +13,7 @@ ghost use Rattle.places.specs.Places.{
   holds,
   phaseOf,
   phaseWord,
-  kindOf,
+  kindNumber,
   heldAs,
 };
 ghost use Rattle.places.specs.Ageing.{withAge};
@@ -142,7 +142,7 @@ fn phase_word(f: Phase) -> u64
 }
 
 fn kind_bit(ipv6: bool) -> u64
-    ensures { λ r. ⌜ r ≡ kindOf ipv6 ⌝ }
+    ensures { λ r. ⌜ r ≡ kindNumber ipv6 ⌝ }
 {
     if ipv6 { 1 } else { 0 }
 }

@@ -145,8 +145,7 @@ fn main() {
     closing(wrong);
     fresh(&t, &mut head, &mut counts, &mut places);
     wrong::steps(&t, &mut head, &mut counts, &mut places);
-    fresh(&t, &mut head, &mut counts, &mut places);
-    modem::steps(&t, &mut head, &mut counts, &mut places);
+    modem::segments(&mut head, &mut counts, &mut places);
     wrong::tables(&mut head, &mut counts, &mut places);
     words::settings();
 }

@@ -5,12 +5,21 @@ use crate::print::left;
 use crate::print::right;
 use crate::print::spaces;
 use crate::print::text;
+use crate::rules;
+use crate::words;
+use crate::wrong::with_rule;
+use addresses::Wide;
 use events::ROOM;
+use firewall::Started;
 use paper::frames::MOST;
+use paper::rules::table;
 use records::Counts;
 use records::Head;
 use records::Places;
+use table::words::ROW_WORDS;
+use table::words::ROWS;
 use table::words::TableWords;
+use table::*;
 
 // Where each stands in an untagged frame.
 const ETHER: usize = 12;
@@ -105,48 +114,80 @@ fn step(
     page::records(t, counts, places, gap);
 }
 
-// From a fresh record: a chain of at most eight headers is followed, and a fragment shows no transport.
-pub(crate) fn steps(t: &TableWords, head: &mut Head, counts: &mut Counts, places: &mut Places) {
-    text(b"\nIPv6 from the new modem, from 443 to 50001\n");
+// Rule 20 for senders of 2001:db8::/32 alone.
+fn narrowed() -> Rule {
+    let t = table();
+    let r = t.rules[1];
+    let ipv6 = r.ipv6;
+    let prefix = Prefix6 {
+        address: Wide {
+            high: 0x20010DB800000000,
+            low: 0,
+        },
+        length: 32,
+    };
+    let narrow = Ipv6Settings {
+        source: Prefix6Setting::Set(prefix),
+        ..ipv6
+    };
+    Rule { ipv6: narrow, ..r }
+}
+
+// From a fresh record: a chain of at most eight headers is followed.
+fn steps(t: &TableWords, head: &mut Head, counts: &mut Counts, places: &mut Places) {
     step(b"SYN", TCP, 0, SYN, t, head, counts, places);
-    step(
+    behind(
         b"ACK behind one header",
         OPTIONS,
         1,
-        ACK,
         t,
         head,
         counts,
         places,
     );
-    step(
+    behind(
         b"ACK behind eight headers",
         OPTIONS,
         8,
-        ACK,
         t,
         head,
         counts,
         places,
     );
-    step(
+    behind(
         b"ACK behind nine headers",
         OPTIONS,
         9,
-        ACK,
         t,
         head,
         counts,
         places,
     );
-    step(
-        b"ACK in a fragment",
-        FRAGMENT,
-        1,
-        ACK,
-        t,
-        head,
-        counts,
-        places,
-    );
+    behind(b"ACK in a fragment", FRAGMENT, 1, t, head, counts, places);
+}
+
+pub(crate) fn segments(head: &mut Head, counts: &mut Counts, places: &mut Places) {
+    text(b"\nIPv6 from the new modem, from 443 to 50001, the table with one change\n");
+    rules::rule(narrowed());
+    let mut w: TableWords = [[0; ROW_WORDS]; ROWS];
+    lay::table(with_rule(1, narrowed()), &mut w);
+    let Started::Refused(r) = firewall::fresh(&w, 0, head, counts, places) else {
+        return steps(&w, head, counts, places);
+    };
+    words::refused(r, &w);
+}
+
+// The segment that goes on, behind so many headers of which this is the first.
+fn behind(
+    what: &[u8],
+    first: u8,
+    n: usize,
+    t: &TableWords,
+    head: &mut Head,
+    counts: &mut Counts,
+    places: &mut Places,
+)
+    requires { ⌜ n ≤ 9 ⌝ }
+{
+    step(what, first, n, ACK, t, head, counts, places);
 }

@@ -219,7 +219,7 @@ fn action(a: Action) {
     }
 }
 
-fn rule(r: Rule) {
+pub(crate) fn rule(r: Rule) {
     number(wide16(r.id));
     let a = r.action;
     action(a);

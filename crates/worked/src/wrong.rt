@@ -62,7 +62,7 @@ pub(crate) fn steps(t: &TableWords, head: &mut Head, counts: &mut Counts, places
 }
 
 // The table with another rule at a place.
-fn with_rule(k: usize, r: Rule) -> Table {
+pub(crate) fn with_rule(k: usize, r: Rule) -> Table {
     let mut t = table();
     if k < RULES {
         t.rules[k] = r;

@@ -27,6 +27,9 @@ element-copy-out-above-2 c = search needs
 element-copy-out-above-3 : tie.Need-element-copy-out-above-3
 element-copy-out-above-3 c = search needs
 
+element-copy-out-above-4 : tie.Need-element-copy-out-above-4
+element-copy-out-above-4 c = search needs
+
 element-copy-out-result : tie.Need-element-copy-out-result
 element-copy-out-result c = search needs
 
@@ -45,5 +48,6 @@ stamp-spec =
     element-copy-out-above
     element-copy-out-above-2
     element-copy-out-above-3
+    element-copy-out-above-4
     element-copy-out-result
     returns)
