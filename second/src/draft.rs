@@ -79,7 +79,7 @@ pub const DAMAGES: [Damage; 20] = [
     Damage::Flip,
 ];
 
-/// Those that show on IPv6.
+/// Those that show on IPv6: three that every frame can have, those of IPv6 alone, and one more.
 pub const DAMAGES6: [Damage; 21] = [
     Damage::Padding,
     Damage::Cut,
@@ -103,6 +103,11 @@ pub const DAMAGES6: [Damage; 21] = [
     Damage::UdpWithChain,
     Damage::Flip,
 ];
+
+/// Those of IPv6 alone.
+pub fn ipv6_damages() -> &'static [Damage] {
+    &DAMAGES6[3..20]
+}
 
 /// The packet that follows the link header, whatever the ether type says.
 #[derive(Clone, Copy, PartialEq, Eq, Debug)]

@@ -1,7 +1,7 @@
 //! What a stream is to show of IPv6, by name, and the frames that show it under the modem's table.
 
 use super::*;
-use crate::draft::{Damage, Draft, Extension, Packet};
+use crate::draft::{ipv6_damages, Damage, Draft, Extension, Packet};
 use crate::layers::LONGEST_CHAIN;
 use crate::world::aim;
 
@@ -91,26 +91,6 @@ pub const HALVES: [Half; 4] = [
     Half { source: false, high: false },
 ];
 
-const DAMAGED: [Damage; 17] = [
-    Damage::Rest39,
-    Damage::Version6,
-    Damage::LengthOneMore,
-    Damage::LengthOneLess,
-    Damage::LengthZero,
-    Damage::HeaderAlone,
-    Damage::CutHeader,
-    Damage::CutLength,
-    Damage::CutUnit,
-    Damage::CutByte,
-    Damage::CutByteOfLonger,
-    Damage::TcpNineteen,
-    Damage::TcpOneBeyond,
-    Damage::UdpSeven,
-    Damage::UdpOneMore,
-    Damage::UdpOneLess,
-    Damage::UdpWithChain,
-];
-
 const MEETINGS: [Meeting; 4] = [Meeting::AnyIpv4, Meeting::AnyIpv6, Meeting::ProtocolIpv4, Meeting::ProtocolIpv6];
 
 impl Wish {
@@ -119,7 +99,7 @@ impl Wish {
         all.extend(EXTENSIONS.map(Wish::ChainWith));
         all.extend([Wish::FragmentFirst, Wish::FragmentBetween, Wish::FragmentAfterEight]);
         all.extend([Kind::Tcp, Kind::Udp].map(Wish::EightThen));
-        all.extend(DAMAGED.map(Wish::Damaged));
+        all.extend(ipv6_damages().iter().copied().map(Wish::Damaged));
         all.extend([Kind::Tcp, Kind::Udp].map(Wish::Transport));
         all.extend([Wish::Message, Wish::OtherMessage, Wish::OtherProtocol]);
         all.extend([Action::Allow, Action::Block].map(Wish::Decides));
