@@ -1,6 +1,9 @@
 //! Frames as the generator drafts them: fields first, then bytes, then what is broken on purpose.
 
 mod ipv6;
+mod someip;
+
+pub use someip::{At, Broken, BROKEN};
 
 use crate::layers::{Addresses, Kind, DEST_OPTIONS, ETHER_IPV4, ETHER_IPV6, ETHER_TAG, IPV6_HEADER, LONGEST_CHAIN};
 use crate::layers::{PROTOCOL_TCP, PROTOCOL_UDP};
@@ -26,9 +29,11 @@ pub enum Damage {
     ShortUdp,
     TcpOffsetLow,
     TcpOffsetHigh,
-    MessageLengthLow,
-    MessageLengthHigh,
-    ShortMessage,
+    /// The last message of SOME/IP says less than it has, so that something is left over; or a message is no whole one.
+    MessageLengthLess,
+    Message(Broken, At),
+    /// A message of SOME/IP lies in the padding.
+    MessageInPadding,
     Flip,
     /// The rest has 39 bytes, one less than the IPv6 header.
     Rest39,
@@ -55,8 +60,8 @@ pub enum Damage {
     UdpWithChain,
 }
 
-/// Those that show on IPv4.
-pub const DAMAGES: [Damage; 20] = [
+/// Those that show on IPv4, but for messages that are no whole ones.
+pub const DAMAGES: [Damage; 19] = [
     Damage::MoreFragments,
     Damage::FragmentOffset,
     Damage::Padding,
@@ -73,13 +78,12 @@ pub const DAMAGES: [Damage; 20] = [
     Damage::ShortUdp,
     Damage::TcpOffsetLow,
     Damage::TcpOffsetHigh,
-    Damage::MessageLengthLow,
-    Damage::MessageLengthHigh,
-    Damage::ShortMessage,
+    Damage::MessageLengthLess,
+    Damage::MessageInPadding,
     Damage::Flip,
 ];
 
-/// Those that show on IPv6: three that every frame can have, those of IPv6 alone, and one more.
+/// Those that show on IPv6, but for the same: three that every frame can have, those of IPv6 alone, and one more.
 pub const DAMAGES6: [Damage; 21] = [
     Damage::Padding,
     Damage::Cut,
@@ -124,6 +128,7 @@ pub struct Extension {
     pub units: u8,
 }
 
+/// A message of SOME/IP, with so many bytes behind its header.
 #[derive(Clone, Copy, Debug, Default)]
 pub struct Message {
     pub service: u16,
@@ -131,6 +136,7 @@ pub struct Message {
     pub version: u8,
     pub message: u8,
     pub code: u8,
+    pub payload: usize,
 }
 
 #[derive(Clone, Debug)]
@@ -156,7 +162,9 @@ pub struct Draft {
     pub dport: u16,
     pub flags: u8,
     pub tcp_options: usize,
-    pub message: Option<Message>,
+    /// What a datagram is made of, one behind the other.
+    pub messages: Vec<Message>,
+    /// What follows the transport's header where no message does.
     pub payload: usize,
     pub damage: Damage,
 }
@@ -205,11 +213,8 @@ impl Draft {
         match self.damage {
             Damage::ShortTcp | Damage::TcpOffsetLow | Damage::TcpOffsetHigh => self.kind = Kind::Tcp,
             Damage::TcpNineteen | Damage::TcpOneBeyond => self.kind = Kind::Tcp,
-            Damage::ShortUdp | Damage::UdpLength | Damage::ShortMessage => self.kind = Kind::Udp,
-            Damage::MessageLengthLow | Damage::MessageLengthHigh => {
-                self.kind = Kind::Udp;
-                self.message.get_or_insert_default();
-            }
+            Damage::ShortUdp | Damage::UdpLength => self.kind = Kind::Udp,
+            Damage::MessageLengthLess | Damage::Message(..) | Damage::MessageInPadding => self.show_messages(),
             Damage::UdpSeven | Damage::UdpOneMore | Damage::UdpOneLess | Damage::UdpWithChain => self.kind = Kind::Udp,
             _ => {}
         }
@@ -229,6 +234,14 @@ impl Draft {
         self.chain.push(Extension { units: units.unwrap_or(last.units), ..last });
     }
 
+    /// Leaves little behind each header.
+    pub fn shorten(&mut self) {
+        self.payload %= 40;
+        for message in &mut self.messages {
+            message.payload %= 40;
+        }
+    }
+
     pub fn bytes(&self, random: &mut Random) -> Vec<u8> {
         let mut bytes = self.link();
         let rest = bytes.len();
@@ -240,6 +253,8 @@ impl Draft {
         match self.damage {
             Damage::Rest39 => bytes.truncate(rest + IPV6_HEADER - 1),
             Damage::Padding => noise(&mut bytes, random.between(1, 20) as usize, random),
+            Damage::Message(Broken::IntoPadding, _) => noise(&mut bytes, someip::LACKING, random),
+            Damage::MessageInPadding => self.message_in_padding(&mut bytes, random),
             Damage::CutDeep => bytes.truncate(random.between(14, 40) as usize),
             Damage::Cut => bytes.truncate(bytes.len() - random.between(1, 6) as usize),
             Damage::Flip => {
@@ -349,11 +364,7 @@ impl Draft {
     }
 
     fn udp(&self, random: &mut Random) -> Vec<u8> {
-        let mut content = self.message.map_or(vec![], |message| self.someip(&message, random));
-        noise(&mut content, self.payload, random);
-        if self.damage == Damage::ShortMessage {
-            content.truncate(random.below(16) as usize);
-        }
+        let content = self.content(random);
         let mut length = 8 + content.len() as u16;
         if self.damage == Damage::UdpLength {
             length = length.wrapping_add(random.pick(&[1, 8, 1_000, 0xffff, 0xfff8]));
@@ -374,21 +385,6 @@ impl Draft {
             Damage::UdpSeven => bytes.truncate(7),
             _ => {}
         }
-        bytes
-    }
-
-    fn someip(&self, message: &Message, random: &mut Random) -> Vec<u8> {
-        let full = 8 + self.payload as u32;
-        let length = match self.damage {
-            Damage::MessageLengthLow => random.below(8) as u32,
-            Damage::MessageLengthHigh => full.saturating_add(random.pick(&[1, 1, 8, u32::MAX])),
-            _ if random.chance(20) => random.between(8, u64::from(full)) as u32,
-            _ => full,
-        };
-        let mut bytes = [message.service.to_be_bytes(), message.method.to_be_bytes()].concat();
-        bytes.extend(length.to_be_bytes());
-        noise(&mut bytes, 4, random);
-        bytes.extend([message.version, 1, message.message, message.code]);
         bytes
     }
 }

@@ -1,6 +1,6 @@
 //! The events of 001 section 7.6.1: number, FirewallRuleId, then the array if there is one.
 
-use crate::layers::{Ip, Kind, Layers, IPV6_HEADER};
+use crate::layers::{Ip, Kind, Layers, IPV6_HEADER, MESSAGE_HEADER};
 
 pub const IPV4_MISMATCH: u16 = 51;
 pub const IPV6_MISMATCH: u16 = 52;
@@ -22,7 +22,7 @@ fn array_length(number: u16) -> usize {
         IPV6_MISMATCH => IPV6_HEADER,
         LINK_MISMATCH => 30,
         IPV4_MISMATCH | TCP_MISMATCH | TCP_MAXCONNECTIONS => 24,
-        SOMEIP_MISMATCH => 16,
+        SOMEIP_MISMATCH => MESSAGE_HEADER,
         UDP_MISMATCH => 8,
         RATELIMIT => 6,
         _ => 0,
@@ -44,7 +44,8 @@ fn array_source<'a>(number: u16, frame: &'a [u8], layers: &Layers) -> &'a [u8] {
         },
         TCP_MISMATCH | TCP_MAXCONNECTIONS => transport(Kind::Tcp).map(|tcp| (tcp.start, tcp.header)),
         UDP_MISMATCH => transport(Kind::Udp).map(|udp| (udp.start, udp.header)),
-        SOMEIP_MISMATCH => layers.someip.map(|message| (message.start, 16)),
+        // "Events show the first" (02, 3/12).
+        SOMEIP_MISMATCH => layers.someip.map(|someip| (someip.start, MESSAGE_HEADER)),
         RATELIMIT => Some((6, 6)),
         _ => None,
     };

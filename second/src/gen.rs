@@ -1,6 +1,7 @@
 //! Writes a case stream, and judges what it writes to know what the stream reaches.
 
 mod bad;
+mod bundles;
 mod calls;
 mod conversations;
 mod wishes;
@@ -8,7 +9,8 @@ mod wishes;
 use std::io::{self, Write};
 
 use crate::answer::Refusal;
-use crate::draft::{junk, Draft, Packet, DAMAGES, DAMAGES6};
+use crate::dispatch::Bundle;
+use crate::draft::{junk, At, Damage, Draft, Packet, BROKEN, DAMAGES, DAMAGES6};
 use crate::faults::{spoil_records, undercut_records, BadTable, RECORD_FAULTS};
 use crate::image;
 use crate::judge::judge;
@@ -17,7 +19,7 @@ use crate::modem::Wish;
 use crate::random::Random;
 use crate::reach::{flag_sets, flags_name, Call, Reach};
 use crate::records::{self, Conversation, Quadruple, Records, CLOSING, FREE, HIGHEST_LEVEL, OPENING, RUNNING};
-use crate::stream::UNTOUCHED;
+use crate::stream::{LONGEST_FRAME, UNTOUCHED};
 use crate::table::{set, Rule, Table, PLACES, RULES};
 use crate::world::{aim, draw_frame, draw_table, draw_table_without_rules, near_miss, STEADY};
 
@@ -27,8 +29,11 @@ const PER_TABLE: u64 = 300;
 const TAIL: u64 = 60;
 /// From this many judged calls on, everything named must be reached.
 pub const ENOUGH: u64 = 1_000;
-/// From this many on there is room for each single fault, and for the modem's table, which comes at every fourth.
+/// From this many on there is room for each single fault, and for the modem's table, which comes at every fourth; so does the
+/// dispatch's, from the second table on.
 const SOME: u64 = 500;
+/// A frame that is to show something may be refused for its event space, so that another must come.
+const TRIES: usize = 4;
 
 pub struct Gen<W: Write> {
     output: W,
@@ -101,8 +106,10 @@ impl<W: Write> Gen<W> {
     }
 
     fn one_table(&mut self, number: u64, tables: u64) -> io::Result<()> {
-        if number % 4 == 0 && self.calls >= SOME {
-            self.modem()?;
+        match number % 4 {
+            0 if self.calls >= SOME => self.modem()?,
+            1 => self.dispatch()?,
+            _ => {}
         }
         let good = draw_table(number, &mut self.random);
         self.begin_table(&good)?;
@@ -129,6 +136,25 @@ impl<W: Write> Gen<W> {
             self.flow_until(0)?;
         }
         self.print()
+    }
+
+    /// Shows each of these that no frame for another has shown.
+    fn until_shown<T: Copy>(
+        &mut self,
+        all: Vec<T>,
+        name: fn(T) -> String,
+        show: fn(&mut Self, T) -> io::Result<()>,
+    ) -> io::Result<()> {
+        let before: Vec<u64> = all.iter().map(|one| self.reach.count(&name(*one))).collect();
+        for (one, before) in all.into_iter().zip(before) {
+            for _ in 0..TRIES {
+                if self.reach.count(&name(one)) == before {
+                    self.now = self.now.saturating_add(self.random.below(3));
+                    show(self, one)?;
+                }
+            }
+        }
+        Ok(())
     }
 
     fn begin_table(&mut self, table: &Table) -> io::Result<()> {
@@ -176,9 +202,9 @@ impl<W: Write> Gen<W> {
     fn flow(&mut self) -> io::Result<()> {
         self.tick();
         match self.random.below(100) {
-            0..=39 => self.tracked()?,
-            40..=80 => self.aimed()?,
-            81..=95 => {
+            0..=43 => self.tracked()?,
+            44..=82 => self.aimed()?,
+            83..=94 => {
                 let frame = draw_frame(&mut self.random).bytes(&mut self.random);
                 self.judge(&frame)?;
             }
@@ -277,12 +303,16 @@ impl<W: Write> Gen<W> {
     }
 
     fn damaged(&mut self, mut draft: Draft) -> io::Result<()> {
-        if draft.packet == Packet::V6 && self.random.chance(30) {
+        let packet = draft.packet;
+        if packet != Packet::None && draft.carries_messages() && self.random.chance(12) {
+            draft.damage = Damage::Message(self.random.pick(&BROKEN), self.random.pick(&[At::First, At::Later]));
+            draft.show_damage(packet);
+        } else if packet == Packet::V6 && self.random.chance(30) {
             draft.damage = self.random.pick(&DAMAGES6);
             if self.random.chance(70) {
                 draft.show_damage(Packet::V6);
             }
-        } else if self.random.chance(50) {
+        } else if self.random.chance(60) {
             self.damage = (self.damage + 1) % DAMAGES.len();
             draft.damage = DAMAGES[self.damage];
             if self.random.chance(85) {

@@ -53,7 +53,7 @@ fn tcp(flags: u8) -> Vec<u8> {
     segment
 }
 
-fn read(frame: &[u8]) -> Layers {
+fn read(frame: &[u8]) -> Layers<'_> {
     layers::read(frame).expect("a frame of a good length")
 }
 
@@ -74,12 +74,13 @@ fn kind(frame: &[u8]) -> Option<Kind> {
 
 #[test]
 fn the_header_is_read() {
-    let plain = read(&frame(&[], 17, &udp()));
+    let frame = frame(&[], 17, &udp());
+    let plain = read(&frame);
     let Some(Ip::V6(ip)) = plain.ip else { panic!("no IPv6") };
     assert_eq!((ip.source, ip.destination), (SOURCE, DESTINATION));
     let udp = plain.transport.expect("UDP");
     assert_eq!((udp.kind, udp.sport, udp.dport, udp.start), (Kind::Udp, 30_491, 30_501, PAYLOAD));
-    assert_eq!(plain.someip.expect("SOME/IP").service, 0x1000);
+    assert_eq!(plain.someip.expect("SOME/IP").messages().next().map(|message| message.service), Some(0x1000));
 }
 
 #[test]

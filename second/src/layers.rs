@@ -16,6 +16,9 @@ pub const DEST_OPTIONS: u8 = 60;
 /// The one that fails it.
 pub const FRAGMENT: u8 = 44;
 pub const LONGEST_CHAIN: usize = 8;
+/// The header of a SOME/IP message: a message is 8 + Length bytes, and its Length at least 8.
+pub const MESSAGE_HEADER: usize = 16;
+const LEAST_LENGTH: u32 = 8;
 pub const SHORTEST: usize = 14;
 pub const SHORTEST_TAGGED: usize = 18;
 pub const LONGEST: usize = 1_518;
@@ -114,18 +117,39 @@ pub const SYN: u8 = 0x02;
 pub const RST: u8 = 0x04;
 pub const ACK: u8 = 0x10;
 
+/// What the settings of a rule ask of a message.
 #[derive(Clone, Copy, PartialEq, Eq, Debug)]
-pub struct SomeIp {
+pub struct Message {
     pub service: u16,
     pub method: u16,
     pub version: u8,
     pub message: u8,
     pub code: u8,
+}
+
+/// A UDP payload that "cuts, with nothing left over, into one or more whole messages" (02, 3/12).
+#[derive(Clone, Copy, PartialEq, Eq, Debug)]
+pub struct SomeIp<'a> {
+    payload: &'a [u8],
+    /// Where in the frame the first message starts.
     pub start: usize,
 }
 
+impl<'a> SomeIp<'a> {
+    /// Every message, one behind the other; there is at least one.
+    #[inline]
+    pub fn messages(&self) -> impl Iterator<Item = Message> + 'a {
+        let mut left = self.payload;
+        std::iter::from_fn(move || {
+            let (message, behind) = cut_message(left)?;
+            left = behind;
+            Some(message)
+        })
+    }
+}
+
 #[derive(Clone, Copy, PartialEq, Eq, Debug)]
-pub struct Layers {
+pub struct Layers<'a> {
     pub dst: u64,
     pub src: u64,
     pub tag: Option<Tag>,
@@ -134,7 +158,7 @@ pub struct Layers {
     pub rest: usize,
     pub ip: Option<Ip>,
     pub transport: Option<Transport>,
-    pub someip: Option<SomeIp>,
+    pub someip: Option<SomeIp<'a>>,
 }
 
 pub fn be16(bytes: &[u8], at: usize) -> u16 {
@@ -159,7 +183,7 @@ pub fn mac(bytes: &[u8], at: usize) -> u64 {
 
 /// Reads the layers of a frame; refuses 1 and 2 alone.
 #[inline]
-pub fn read(frame: &[u8]) -> Result<Layers, Refusal> {
+pub fn read(frame: &[u8]) -> Result<Layers<'_>, Refusal> {
     if frame.len() < SHORTEST {
         return Err(Refusal::ShortFrame);
     }
@@ -292,22 +316,31 @@ fn read_udp(payload: &[u8], start: usize) -> Option<Transport> {
     Some(Transport { kind: Kind::Udp, sport, dport, start, header: 8, flags: 0 })
 }
 
-/// The first message of the datagram; `packet` ends where the IP packet does.
-fn read_someip(packet: &[u8], start: usize) -> Option<SomeIp> {
+/// Present "exactly when the UDP payload cuts, with nothing left over"; an empty one cuts into no message. `packet` ends where the IP
+/// packet does.
+fn read_someip(packet: &[u8], start: usize) -> Option<SomeIp<'_>> {
     let payload = &packet[start..];
-    if payload.len() < 16 {
+    let mut left = payload;
+    loop {
+        (_, left) = cut_message(left)?;
+        if left.is_empty() {
+            return Some(SomeIp { payload, start });
+        }
+    }
+}
+
+/// The whole message that these bytes start with, and what lies behind it; none where they start with none, or with a Length under 8.
+#[inline]
+fn cut_message(bytes: &[u8]) -> Option<(Message, &[u8])> {
+    if bytes.len() < MESSAGE_HEADER {
         return None;
     }
-    let length = be32(payload, 4);
-    if length < 8 || u64::from(length) > payload.len() as u64 - 8 {
+    // Up to 2^32 - 1, so that nothing is added to it before it is known to fit.
+    let length = be32(bytes, 4);
+    if length < LEAST_LENGTH || u64::from(length) > bytes.len() as u64 - 8 {
         return None;
     }
-    Some(SomeIp {
-        service: be16(payload, 0),
-        method: be16(payload, 2),
-        version: payload[12],
-        message: payload[14],
-        code: payload[15],
-        start,
-    })
+    let (service, method) = (be16(bytes, 0), be16(bytes, 2));
+    let message = Message { service, method, version: bytes[12], message: bytes[14], code: bytes[15] };
+    Some((message, &bytes[8 + length as usize..]))
 }

@@ -1,6 +1,9 @@
 //! A second reading of document 01, as 02 amends it: it judges the same calls as the proved program, so that the two can be held together.
 
 mod answer;
+#[cfg(test)]
+mod bundles;
+mod dispatch;
 mod draft;
 mod event;
 mod faults;
@@ -88,7 +91,9 @@ fn pace(scene: &pace::Scene, times: u32, step: u32) -> io::Result<ExitCode> {
 
 fn usage() -> ExitCode {
     eprintln!("second run < stream > lines\nsecond recording < capture > stream\nsecond gen SEED N > stream");
-    eprintln!("second pace SCENE TIMES STEP > stream, SCENE one of worked, last, none, held, six, chain,");
+    eprintln!(
+        "second pace SCENE TIMES STEP > stream, SCENE one of worked, last, none, held, six, chain, message, bundle,"
+    );
     eprintln!(
         "  grow RULES HELD LENGTH, or check NAME, NAME one of worked, ports, tracked, empty, full, ipv6, nothing"
     );

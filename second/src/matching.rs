@@ -1,6 +1,6 @@
 //! Which rule decides a frame, and which fits best where none does.
 
-use crate::layers::{Ip, Ipv4, Ipv6, Kind, Layers};
+use crate::layers::{Ip, Ipv4, Ipv6, Kind, Layers, Message};
 use crate::table::{set, Rule, Table};
 
 /// How many layers match from link upward to the first that does not.
@@ -93,9 +93,15 @@ fn transport_matches(rule: &Rule, layers: &Layers) -> bool {
         && (!rule.has(set::DEST_PORTS) || rule.dports.holds(transport.dport))
 }
 
+/// The settings "agree exactly when they agree for every message" (02, 3/12).
 #[inline]
 fn someip_matches(rule: &Rule, layers: &Layers) -> bool {
-    let Some(message) = &layers.someip else { return false };
+    let Some(someip) = &layers.someip else { return false };
+    someip.messages().all(|message| message_agrees(rule, &message))
+}
+
+#[inline]
+pub fn message_agrees(rule: &Rule, message: &Message) -> bool {
     (!rule.has(set::SERVICE) || rule.service == message.service)
         && (!rule.has(set::METHOD) || rule.method == message.method)
         && (!rule.has(set::VERSION) || rule.version == message.version)

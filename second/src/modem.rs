@@ -2,7 +2,7 @@
 
 mod wish;
 
-pub use wish::{Compared, Half, Held, Meeting, Protocol, Wish, HALVES};
+pub use wish::{chain, Compared, Half, Held, Meeting, Protocol, Wish, HALVES};
 
 use crate::image::{read_table, TABLE_IMAGE};
 use crate::layers::{Kind, DEST_OPTIONS, FRAGMENT, HOP_BY_HOP, PROTOCOL_TCP, PROTOCOL_UDP, ROUTING};

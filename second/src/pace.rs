@@ -3,7 +3,7 @@
 
 use std::io::{self, Write};
 
-use crate::draft::{Damage, Draft, Extension, Packet};
+use crate::draft::{Damage, Draft, Extension, Message, Packet};
 use crate::image::{read_table, write_records, write_table, TABLE_IMAGE};
 use crate::layers::{Addresses, Kind, ACK, DEST_OPTIONS, ETHER_IPV4, ETHER_IPV6, LONGEST_CHAIN, PROTOCOL_TCP};
 use crate::random::Random;
@@ -24,6 +24,9 @@ const NETWORK6: u128 = 0x2001_0db8_0000_0001 << 64;
 const SOURCE6: u128 = NETWORK6 + 1;
 const DESTINATION6: u128 = NETWORK6 + 0x0001_0001;
 const HTTPS: u16 = 443;
+const SOMEIP_PORT: u16 = 30_501;
+/// As many messages as a frame over IPv4 can carry.
+const MOST_MESSAGES: usize = 92;
 /// The rule at a place of the larger tables is for the ports from here on.
 const FIRST_PORT: u16 = 10_000;
 const PORTS_A_RULE: u16 = 10;
@@ -45,6 +48,8 @@ pub fn scene(words: &[&str]) -> Option<Scene> {
         ["held"] => Some(held()),
         ["six"] => Some(six(0)),
         ["chain"] => Some(six(LONGEST_CHAIN)),
+        ["message"] => Some(messages(1)),
+        ["bundle"] => Some(messages(MOST_MESSAGES)),
         ["check", name] => checked(name),
         ["grow", rules, held, length] => grow(rules.parse().ok()?, held.parse().ok()?, length.parse().ok()?),
         _ => None,
@@ -150,6 +155,22 @@ fn six(headers: usize) -> Scene {
     Scene::Judged { table, records, frames: vec![draft.bytes(&mut Random::new(0))] }
 }
 
+/// One rule that asks for all five settings of SOME/IP, and a datagram of so many messages without payload that all agree.
+fn messages(count: usize) -> Scene {
+    let table = table(1, Action::Block, message_rule);
+    let rule = &table.rules[0];
+    let message = Message {
+        service: rule.service,
+        method: rule.method,
+        version: rule.version,
+        message: rule.message,
+        code: rule.code,
+        payload: 0,
+    };
+    let draft = Draft { messages: vec![message; count], ..draft(Kind::Udp, SOMEIP_PORT, SOMEIP_PORT, 0) };
+    Scene::Judged { table, records: Records::empty(START), frames: vec![draft.bytes(&mut Random::new(0))] }
+}
+
 /// So many tracked rules, so many places of each held, and a frame of that length that no rule matches and the default allows.
 fn grow(rules: usize, held: usize, length: usize) -> Option<Scene> {
     if rules > RULES || held > PLACES || !(HEADERS..=LONGEST).contains(&length) {
@@ -187,6 +208,21 @@ fn port_rule(place: usize) -> Rule {
         kind: Kind::Udp,
         dports: Range { low: first_port(place), high: first_port(place) + PORTS_A_RULE - 1 },
         ..allow(place, set::ETHER | set::SOURCE | set::KIND | set::DEST_PORTS)
+    }
+}
+
+fn message_rule(place: usize) -> Rule {
+    Rule {
+        ether: ETHER_IPV4,
+        source: Prefix { address: 0x0a00_0000, length: 8 },
+        kind: Kind::Udp,
+        dports: Range { low: SOMEIP_PORT, high: SOMEIP_PORT },
+        service: 0x1000,
+        method: 0x0111,
+        version: 1,
+        message: 0x80,
+        code: 0,
+        ..allow(place, set::ETHER | set::SOURCE | set::KIND | set::DEST_PORTS | set::SOMEIP)
     }
 }
 
@@ -283,7 +319,7 @@ fn draft(kind: Kind, sport: u16, dport: u16, payload: usize) -> Draft {
         dport,
         flags: ACK,
         tcp_options: 0,
-        message: None,
+        messages: vec![],
         payload,
         damage: Damage::None,
     }
@@ -291,7 +327,7 @@ fn draft(kind: Kind, sport: u16, dport: u16, payload: usize) -> Draft {
 
 #[cfg(test)]
 mod tests {
-    use super::{checked, scene, Scene, RULES, START};
+    use super::{checked, scene, set, Scene, RULES, START};
     use crate::answer::{Refusal, Verdict};
     use crate::judge::judge;
     use crate::layers::{self, Ip};
@@ -305,6 +341,20 @@ mod tests {
             assert_eq!(table.check(), Ok(()), "{name}");
         }
     }
+
+    #[test]
+    fn a_datagram_passes_with_one_message_or_as_many_as_can_be() {
+        for (name, count, length) in [("message", 1, 58), ("bundle", 92, 1_514)] {
+            let Some(Scene::Judged { table, mut records, frames }) = scene(&[name]) else { panic!("no scene {name}") };
+            assert_eq!((frames.len(), frames[0].len()), (1, length), "{name}");
+            let someip = layers::read(&frames[0]).expect("layers").someip.expect("SOME/IP");
+            assert_eq!(someip.messages().count(), count, "{name}");
+            assert_eq!(table.rules[0].set & set::SOMEIP, set::SOMEIP, "{name}");
+            let answer = judge(&table, &mut records, &frames[0], START, &mut [0; 256]).expect("judged");
+            assert_eq!((answer.verdict, answer.rule), (Verdict::Passed, 1), "{name}");
+        }
+    }
+
     #[test]
     fn a_segment_over_ipv6_passes_under_the_last_rule() {
         for (name, chain) in [("six", 0), ("chain", 64)] {

@@ -1,10 +1,12 @@
 //! What a generated stream has reached, by name and how often.
 
+mod bundles;
 mod ipv6;
 
 use std::collections::BTreeMap;
 
 use crate::answer::{Answer, Refusal, Verdict, NO_RULE};
+use crate::dispatch::Bundle;
 use crate::faults::{BadTable, RECORD_FAULTS};
 use crate::layers::{self, be16, be32, Ip, Kind, Layers, ACK, ETHER_IPV4, ETHER_IPV6, ETHER_TAG, FIN, RST, SYN};
 use crate::modem::Wish;
@@ -82,7 +84,7 @@ const NAMES: [&str; 66] = [
     "someip-short",
     "someip-length-low",
 ];
-const LAST_NAMES: [&str; 2] = ["someip-length-high", "someip"];
+const LAST_NAMES: [&str; 3] = ["someip-length-high", "someip-left-over", "someip"];
 
 const VERDICTS: [Verdict; 9] = [
     Verdict::Passed,
@@ -135,6 +137,7 @@ impl Reach {
         names.extend(BadTable::all().into_iter().map(BadTable::name));
         names.extend(RECORD_FAULTS.map(|fault| format!("record-fault-{fault}")));
         names.extend(Wish::all().into_iter().map(Wish::name));
+        names.extend(Bundle::all().into_iter().map(Bundle::name));
         names.extend((0..4).flat_map(|held| flag_sets().map(move |flags| flags_name(held, flags))));
         Reach(names.into_iter().map(|name| (name, 0)).collect())
     }
@@ -185,6 +188,7 @@ impl Reach {
         self.layers(call.frame, &layers);
         self.table(call, answer);
         self.ipv6(call, answer, &layers);
+        self.bundles(call, answer, &layers);
         self.clock(call);
         self.records(call, answer, &layers);
     }
@@ -300,7 +304,8 @@ impl Reach {
             17 if layers.someip.is_some() => self.hit("someip"),
             17 if payload.len() < 24 => self.hit("someip-short"),
             17 if be32(payload, 12) < 8 => self.hit("someip-length-low"),
-            17 => self.hit("someip-length-high"),
+            17 if u64::from(be32(payload, 12)) > payload.len() as u64 - 16 => self.hit("someip-length-high"),
+            17 => self.hit("someip-left-over"),
             _ => self.hit("protocol-other"),
         }
         debug_assert!(layers.someip.is_none() || layers.transport.is_some_and(|udp| udp.kind == Kind::Udp));

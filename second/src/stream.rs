@@ -5,7 +5,7 @@ use std::io::{self, Read, Write};
 use crate::answer::{Answer, Refusal};
 use crate::image::{self, RECORD_IMAGE, TABLE_IMAGE};
 use crate::judge::judge;
-use crate::layers::{self, be16, be64, Addresses, Ip, Kind, Layers, ACK, FIN, RST, SYN};
+use crate::layers::{self, be16, be64, Addresses, Ip, Kind, Layers, SomeIp, ACK, FIN, RST, SYN};
 use crate::records::{self, Conversation, Records, FREE};
 use crate::table::{Table, PLACES, RULES};
 
@@ -225,10 +225,17 @@ fn print_layers(output: &mut impl Write, read: Result<Layers, Refusal>) -> io::R
         }
         None => write!(output, "- ")?,
     }
-    match layers.someip {
-        Some(m) => writeln!(output, "{},{},{},{},{}", m.service, m.method, m.version, m.message, m.code),
-        None => writeln!(output, "-"),
+    print_someip(output, layers.someip)
+}
+
+/// Every message, joined by `;`.
+fn print_someip(output: &mut impl Write, someip: Option<SomeIp>) -> io::Result<()> {
+    let Some(someip) = someip else { return writeln!(output, "-") };
+    for (at, m) in someip.messages().enumerate() {
+        let joint = if at == 0 { "" } else { ";" };
+        write!(output, "{joint}{},{},{},{},{}", m.service, m.method, m.version, m.message, m.code)?;
     }
+    writeln!(output)
 }
 
 /// Prints records as they stand, bad ones too.

@@ -2,7 +2,7 @@
 
 mod aim;
 
-pub use aim::{aim, near_miss};
+pub use aim::{aim, aim_message, near_miss};
 
 use crate::draft::{Damage, Draft, Extension, Message, Packet};
 use crate::image::{read_table, TABLE_IMAGE};
@@ -93,7 +93,7 @@ fn some_of(settings: &[u32], percent: u64, random: &mut Random) -> u32 {
 const LINKS: [u32; 5] = [set::DEST_MAC, set::SOURCE_MAC, set::VLAN, set::PRIORITY, set::ETHER];
 const IPV4S: [u32; 3] = [set::SOURCE, set::DESTINATION, set::PROTOCOL];
 const IPV6S: [u32; 3] = [set::SOURCE6, set::DESTINATION6, set::PROTOCOL6];
-const SOMEIPS: [u32; 5] = [set::SERVICE, set::METHOD, set::VERSION, set::MESSAGE, set::CODE];
+pub const SOMEIPS: [u32; 5] = [set::SERVICE, set::METHOD, set::VERSION, set::MESSAGE, set::CODE];
 const PORT_SETS: [u32; 2] = [set::SOURCE_PORTS, set::DEST_PORTS];
 
 fn draw_rule(random: &mut Random) -> Rule {
@@ -250,13 +250,6 @@ pub fn draw_frame(random: &mut Random) -> Draft {
         _ if random.chance(20) => random.pick(&[Packet::V4, Packet::V6]),
         _ => Packet::None,
     };
-    let message = Message {
-        service: random.pick(&SERVICES),
-        method: random.pick(&METHODS),
-        version: 1,
-        message: random.pick(&MESSAGES),
-        code: random.pick(&[0, 0, 1]),
-    };
     Draft {
         dst: random.pick(&MACS),
         src: random.pick(&MACS),
@@ -275,9 +268,33 @@ pub fn draw_frame(random: &mut Random) -> Draft {
         dport: random.pick(&PORTS),
         flags: random.pick(&[SYN, SYN | ACK, ACK, ACK, 0, 0x11, 0x04]),
         tcp_options: if random.chance(15) { random.between(1, 10) as usize } else { 0 },
-        message: if random.chance(80) { Some(message) } else { None },
+        messages: if random.chance(80) { draw_messages(random) } else { vec![] },
         payload: draw_payload(random),
         damage: Damage::None,
+    }
+}
+
+/// Mostly one, now and then many; the more there are, the less is in them.
+fn draw_messages(random: &mut Random) -> Vec<Message> {
+    let (count, payload) = match random.below(100) {
+        0..=59 => (1, draw_payload(random)),
+        60..=79 => (2, random.pick(&[0, 9, 40])),
+        80..=97 => (random.between(3, 6), random.pick(&[0, 0, 9])),
+        98 => (random.between(7, 20), random.pick(&[0, 9])),
+        _ => (random.between(21, 92), 0),
+    };
+    let least = if count == 1 || random.chance(40) { payload } else { 0 };
+    (0..count).map(|_| draw_message(random.between(least as u64, payload as u64) as usize, random)).collect()
+}
+
+pub fn draw_message(payload: usize, random: &mut Random) -> Message {
+    Message {
+        service: random.pick(&SERVICES),
+        method: random.pick(&METHODS),
+        version: 1,
+        message: random.pick(&MESSAGES),
+        code: random.pick(&[0, 0, 1]),
+        payload,
     }
 }
 

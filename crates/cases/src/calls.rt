@@ -288,6 +288,7 @@ fn shown(image: &Image, length: usize, out: &mut [u8; 65536], used: &mut usize)
 {
     let bytes = &image[..];
     let end = 2 + length;
-    let answer = layers::read(&bytes[2..end]);
-    print::shown(answer, out, used);
+    let frame = &bytes[2..end];
+    let answer = layers::read(frame);
+    print::shown(frame, answer, out, used);
 }

@@ -1,4 +1,8 @@
 // The lines that are printed of an answer and of the records.
+ghost use mathlib.Core.Path.{_≡_};
+ghost use Rattle.payloads.specs.Inside.{BundleInside, SomeipInside};
+ghost use Rattle.layers.specs.Inside.{Inside};
+ghost use Rattle.layers.specs.Layers.{shownOf};
 use crate::output::hex;
 use crate::output::put;
 use crate::output::row;
@@ -19,10 +23,12 @@ use packets::Link;
 use packets::Packet;
 use packets::Packet6;
 use packets::Tag;
+use payloads::Bundle;
 use payloads::Message;
 use payloads::Segment;
 use payloads::Someip;
 use payloads::Transport;
+use payloads::someip_layer::message_at;
 use places::PlaceWords;
 use places::Quad;
 use places::RulePlaces;
@@ -171,15 +177,19 @@ fn ended(space: &[u8; 512], length: usize, out: &mut [u8; 65536], used: &mut usi
     }
 }
 
-pub(crate) fn shown(answer: Shown, out: &mut [u8; 65536], used: &mut usize) {
+pub(crate) fn shown(bytes: &[u8], answer: Shown, out: &mut [u8; 65536], used: &mut usize)
+    requires { ⌜ answer ≡ shownOf (now bytes) ⌝ }
+{
     match answer {
         Shown::Refused(f) => refusal(f.number(), 0, 0, out, used),
-        Shown::Shows(l) => frame(l, out, used),
+        Shown::Shows(l) => frame(bytes, l, out, used),
     }
     put(out, used, b'\n');
 }
 
-fn frame(l: Layers, out: &mut [u8; 65536], used: &mut usize) {
+fn frame(bytes: &[u8], l: Layers, out: &mut [u8; 65536], used: &mut usize)
+    requires { ⌜ Inside (now bytes) l ⌝ }
+{
     put(out, used, b'L');
     link(l.link, out, used);
     let i = l.ip;
@@ -187,7 +197,7 @@ fn frame(l: Layers, out: &mut [u8; 65536], used: &mut usize) {
     let t = l.transport;
     transport(t, out, used);
     let s = l.someip;
-    someip(s, out, used);
+    someip(bytes, s, out, used);
 }
 
 fn link(l: Link, out: &mut [u8; 65536], used: &mut usize) {
@@ -280,10 +290,28 @@ fn segment(s: Segment) -> [u64; 7] {
     ]
 }
 
-fn someip(s: Someip, out: &mut [u8; 65536], used: &mut usize) {
+fn someip(bytes: &[u8], s: Someip, out: &mut [u8; 65536], used: &mut usize)
+    requires { ⌜ SomeipInside (now bytes) s ⌝ }
+{
     match s {
         Someip::Absent => text(out, used, b" -"),
-        Someip::Present(m) => row(out, used, b' ', b',', &message(m)),
+        Someip::Present(b) => messages(bytes, b, out, used),
+    }
+}
+
+// Every message, one behind the other.
+fn messages(bytes: &[u8], b: Bundle, out: &mut [u8; 65536], used: &mut usize)
+    requires { ⌜ BundleInside (now bytes) b ⌝ }
+{
+    let mut before = b' ';
+    let mut at = b.payload;
+    let mut len = b.plen;
+    while len > 0 {
+        let m = message_at(bytes, at);
+        row(out, used, before, b',', &message(m));
+        before = b';';
+        at += m.size;
+        len -= m.size;
     }
 }
 

@@ -5,6 +5,7 @@ ghost use Prim.Native.Nat.{suc, _<_, _≤_};
 ghost use Rattle.numbers.specs.Lists.{leading};
 ghost use Rattle.table.specs.Table.{mostRules, mostStates, marked as markedAt};
 ghost use Rattle.table.specs.Words.{ruleIn, tableIn};
+ghost use Rattle.layers.specs.Inside.{Inside};
 ghost use Rattle.layers.specs.Seen.{seen};
 ghost use Rattle.matching.specs.Matching.{layerTests};
 ghost use Rattle.deciding.specs.Best.{bestOf, decisionOf};
@@ -33,7 +34,8 @@ const WHOLE: usize = LAYERS + 1;
 
 // One more than the layers matched of an active rule, and 0 for one that is not active.
 fn score(r: &RuleWords, marks: u64, i: usize, s: &[u8], l: Layers) -> usize
-    requires { ⌜ i < mostRules ⌝ }
+    requires place { ⌜ i < mostRules ⌝ }
+    requires inside { ⌜ Inside (now s) l ⌝ }
     ensures { λ n. ⌜ n ≡ cond (markedAt marks i) (suc (leading (layerTests (ruleIn (now (r .entry))) (seen (now (s .entry)) l)))) 0 ⌝ }
 {
     if !marked(marks, i) {
@@ -46,6 +48,7 @@ fn score(r: &RuleWords, marks: u64, i: usize, s: &[u8], l: Layers) -> usize
 fn best_fit(t: &TableWords, state: usize, s: &[u8], l: Layers) -> Best
     requires state { ⌜ state < mostStates ⌝ }
     requires rules { ⌜ tableIn (now t) .rulecount ≤ mostRules ⌝ }
+    requires inside { ⌜ Inside (now s) l ⌝ }
     ensures { λ r. ⌜ r ≡ bestOf (tableIn (now (t .entry))) state (seen (now (s .entry)) l) ⌝ }
 {
     tell_table(*t);
@@ -78,6 +81,7 @@ fn best_fit(t: &TableWords, state: usize, s: &[u8], l: Layers) -> Best
 pub fn decide(t: &TableWords, state: usize, s: &[u8], l: Layers) -> Decision
     requires state { ⌜ state < mostStates ⌝ }
     requires rules { ⌜ tableIn (now t) .rulecount ≤ mostRules ⌝ }
+    requires inside { ⌜ Inside (now s) l ⌝ }
     ensures { λ r. ⌜ r ≡ decisionOf (tableIn (now (t .entry))) state (seen (now (s .entry)) l) ⌝ }
 {
     let best = best_fit(t, state, s, l);

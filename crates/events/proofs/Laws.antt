@@ -10,7 +10,9 @@ use native.Mathlib.Omega.{arith}
 use Rattle.numbers.specs.Lists.{firsts, copies}
 use Rattle.numbers.proofs.Lists.{length-copies}
 use Rattle.layers.specs.Inside.{Inside}
+use Rattle.payloads.specs.Someip.{messageAt}
 use Rattle.payloads.specs.Inside.{TransportInside, SomeipInside}
+use Rattle.payloads.proofs.Cutting.{walked}
 use Rattle.packets.specs.Inside.{IpInside}
 use Rattle.packets.specs.declared.Ip.{Ip}
 use Rattle.packets.specs.declared.Ip.the-variants as ip
@@ -74,23 +76,26 @@ udp-in s transport.Absent = refl
 udp-in s (transport.Tcp t) = refl
 udp-in s (transport.Udp u) = refl
 
-someip-in : (s : List ℕ) (x : Someip) → headerIn s (someipSpan x) ≡ someipHeader s x
-someip-in s someip.Absent = refl
-someip-in s (someip.Present m) = refl
+-- the first message's header is where the bundle starts
+someip-in : (s : List ℕ) (x : Someip) → SomeipInside s x → headerIn s (someipSpan x) ≡ someipHeader s x
+unfolding messageAt
+someip-in s someip.Absent w = refl
+someip-in s (someip.Present b) w =
+    rw (walked s (b .payload) (b .plen) (messageAt s (b .payload)) (w .cut) (w .some) refl .is) refl
 
 pub event-parts :
-    (e : Event) (id : ℕ) (s : List ℕ) (l : Layers)
+    (e : Event) (id : ℕ) (s : List ℕ) (l : Layers) → Inside s l
     → eventBytes e id (seen s l) ≡ heading (numberOf e) id ++ array (lengthOf e - 4) (headerIn s (spanOf e l))
 unfolding eventBytes array
-event-parts event.Ratelimit id s l = simp append-nil
-event-parts event.StateTransition id s l = refl
-event-parts event.MaxConnections id s l = simp (append-nil, tcp-in)
-event-parts event.LinkMismatch id s l = simp append-nil
-event-parts event.Ipv4Mismatch id s l = simp (append-nil, ipv4-in)
-event-parts event.Ipv6Mismatch id s l = simp (append-nil, ipv6-in)
-event-parts event.TcpMismatch id s l = simp (append-nil, tcp-in)
-event-parts event.UdpMismatch id s l = simp (append-nil, udp-in)
-event-parts event.SomeipMismatch id s l = simp (append-nil, someip-in)
+event-parts event.Ratelimit id s l w = simp append-nil
+event-parts event.StateTransition id s l w = refl
+event-parts event.MaxConnections id s l w = simp (append-nil, tcp-in)
+event-parts event.LinkMismatch id s l w = simp append-nil
+event-parts event.Ipv4Mismatch id s l w = simp (append-nil, ipv4-in)
+event-parts event.Ipv6Mismatch id s l w = simp (append-nil, ipv6-in)
+event-parts event.TcpMismatch id s l w = simp (append-nil, tcp-in)
+event-parts event.UdpMismatch id s l w = simp (append-nil, udp-in)
+event-parts event.SomeipMismatch id s l w = simp (append-nil, someip-in s (l .someip) (w .someip))
 
 pub shortest : (e : Event) → 4 ≤ lengthOf e
 shortest event.Ratelimit = omega arith
@@ -116,7 +121,16 @@ longest event.SomeipMismatch = omega arith
 
 -- how long each event is
 pub event-length : (e : Event) (id : ℕ) (s : List ℕ) (l : Layers) → length (eventBytes e id (seen s l)) ≡ lengthOf e
-event-length e id s l = rw (event-parts e id s l, length-append, length-array) (omega (arith, shortest e))
+unfolding eventBytes
+event-length event.Ratelimit id s l = simp (append-nil, length-array)
+event-length event.StateTransition id s l = refl
+event-length event.MaxConnections id s l = simp (append-nil, length-array)
+event-length event.LinkMismatch id s l = simp (append-nil, length-array)
+event-length event.Ipv4Mismatch id s l = simp (append-nil, length-array)
+event-length event.Ipv6Mismatch id s l = simp (append-nil, length-array)
+event-length event.TcpMismatch id s l = simp (append-nil, length-array)
+event-length event.UdpMismatch id s l = simp (append-nil, length-array)
+event-length event.SomeipMismatch id s l = simp (append-nil, length-array)
 
 -- no event reaches the 256 bytes at which it would end
 pub event-bound : (e : Event) (id : ℕ) (s : List ℕ) (l : Layers) → length (eventBytes e id (seen s l)) ≤ longestEvent
@@ -146,7 +160,7 @@ udp-fits s (transport.Udp u) h = omega (arith, h .joined, h .payload)
 
 someip-fits : (s : List ℕ) (x : Someip) → SomeipInside s x → someipSpan x .at + someipSpan x .len ≤ length s
 someip-fits s someip.Absent h = omega arith
-someip-fits s (someip.Present m) h = h .header
+someip-fits s (someip.Present b) h = walked s (b .payload) (b .plen) (messageAt s (b .payload)) (h .cut) (h .some) refl .header
 
 pub span-fits : (e : Event) (s : List ℕ) (l : Layers) → Inside s l → 14 ≤ length s → spanOf e l .at + spanOf e l .len ≤ length s
 span-fits event.Ratelimit s l h k = omega arith
@@ -162,20 +176,20 @@ span-fits event.SomeipMismatch s l h k = someip-fits s (l .someip) (h .someip)
 -- ---- the event written to the start of a space
 
 laid :
-    (e : Event) (id : ℕ) (s : List ℕ) (l : Layers) (space : List ℕ) (n : ℕ) → longestEvent ≤ length space → n ≡ lengthOf e - 4
+    (e : Event) (id : ℕ) (s : List ℕ) (l : Layers) (space : List ℕ) (n : ℕ) → Inside s l → longestEvent ≤ length space → n ≡ lengthOf e - 4
     → heading (numberOf e) id ++ (array (length (take n (drop 4 space))) (headerIn s (spanOf e l)) ++ drop n (drop 4 space))
     ≡ eventBytes e id (seen s l) ++ drop (length (eventBytes e id (seen s l))) space
-laid e id s l space n h q =
+laid e id s l space n i h q =
     let k : n ≤ length (drop 4 space) = rw (length-drop 4 space) (omega (arith, longest e)) in
     let m : 4 + n ≡ lengthOf e = omega (arith, shortest e) in
-    rw (length-take-le n (drop 4 space) k, drop-drop n 4 space, m, event-length e id s l, event-parts e id s l, ← q)
+    rw (length-take-le n (drop 4 space) k, drop-drop n 4 space, m, event-length e id s l, event-parts e id s l i, ← q)
 
 -- what is put between the heading and the rest of the space is the header's array
 pub event-laid :
-    (e : Event) (id : ℕ) (s : List ℕ) (l : Layers) (space w ys : List ℕ) (stop : ℕ) (p : Span) → longestEvent ≤ length space
+    (e : Event) (id : ℕ) (s : List ℕ) (l : Layers) (space w ys : List ℕ) (stop : ℕ) (p : Span) → Inside s l → longestEvent ≤ length space
     → w ≡ heading (numberOf e) id ++ drop 4 space → stop ≡ lengthOf e → p ≡ spanOf e l
     → ys ≡ array (length (take (stop - 4) (drop 4 w))) (take (p .at + p .len - p .at) (drop (p .at) s))
     → take 4 w ++ (ys ++ drop (stop - 4) (drop 4 w)) ≡ eventBytes e id (seen s l) ++ drop (length (eventBytes e id (seen s l))) space
-event-laid e id s l space w ys stop p h a b c d =
+event-laid e id s l space w ys stop p i h a b c d =
     let k : p .at + p .len - p .at ≡ p .len = omega arith in
-    rw (d, k, a, c) (laid e id s l space (stop - 4) h (ap (λ n. n - 4) b))
+    rw (d, k, a, c) (laid e id s l space (stop - 4) i h (ap (λ n. n - 4) b))

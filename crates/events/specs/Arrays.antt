@@ -7,6 +7,7 @@ use Rattle.packets.specs.declared.Ip.{Ip}
 use Rattle.packets.specs.declared.Ip.the-variants as ip
 use Rattle.payloads.specs.declared.Transport.{Transport}
 use Rattle.payloads.specs.declared.Transport.the-variants as transport
+use Rattle.payloads.specs.Someip.{someipBytes}
 use Rattle.payloads.specs.declared.Someip.{Someip}
 use Rattle.payloads.specs.declared.Someip.the-variants as someip
 use Rattle.layers.specs.declared.Layers.{Layers}
@@ -55,9 +56,10 @@ udpSpan transport.Absent = nowhere
 udpSpan (transport.Tcp t) = nowhere
 udpSpan (transport.Udp u) = record { at = u .header; len = 8 }
 
+-- the first message stands first in its bundle
 abbrev pub someipSpan : Someip → Span
 someipSpan someip.Absent = nowhere
-someipSpan (someip.Present m) = record { at = m .header; len = 16 }
+someipSpan (someip.Present b) = record { at = b .payload; len = someipBytes }
 
 abbrev pub spanOf : Event → Layers → Span
 spanOf event.Ratelimit l = record { at = 6; len = 6 }

@@ -14,7 +14,8 @@ use Rattle.packets.specs.declared.Ip.the-variants as ip
 use Rattle.payloads.specs.declared.Transport.{Transport}
 use Rattle.payloads.specs.declared.Transport.the-variants as transport
 use Rattle.payloads.specs.declared.Someip.{Someip}
-use Rattle.payloads.specs.declared.Someip.the-variants as someip
+use Rattle.payloads.specs.declared.Message.{Message}
+use Rattle.payloads.specs.Someip.{someipBytes, messagesOf}
 use Rattle.layers.specs.Seen.{Seen}
 use Rattle.table.specs.declared.Rule.{Rule}
 use Rattle.table.specs.Marks.{ipv6Unset}
@@ -60,9 +61,13 @@ udpHeader s transport.Absent = []
 udpHeader s (transport.Tcp t) = []
 udpHeader s (transport.Udp u) = part s (u .header) 8
 
+-- 3/12: "Events show the first"
+abbrev pub firstHeader : List ℕ → List Message → List ℕ
+firstHeader s [] = []
+firstHeader s (m ∷ ms) = part s (m .header) someipBytes
+
 abbrev pub someipHeader : List ℕ → Someip → List ℕ
-someipHeader s someip.Absent = []
-someipHeader s (someip.Present m) = part s (m .header) 16
+someipHeader s x = firstHeader s (messagesOf s x)
 
 -- "MAC_Address is the source MAC"
 abbrev pub sourceMac : List ℕ → List ℕ

@@ -164,13 +164,14 @@ fn udp_span(t: Transport) -> Span
     }
 }
 
+// The first message stands first in its bundle.
 fn someip_span(x: Someip) -> Span
     ensures { λ r. ⌜ r ≡ someipSpan x ⌝ }
 {
     match x {
         Someip::Absent => Span::nowhere(),
-        Someip::Present(m) => Span {
-            at: m.header,
+        Someip::Present(b) => Span {
+            at: b.payload,
             len: 16,
         },
     }

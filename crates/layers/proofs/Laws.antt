@@ -17,7 +17,7 @@ use Rattle.payloads.specs.Transport.{transportOf}
 use Rattle.payloads.specs.Someip.{someipOf}
 use Rattle.layers.specs.Layers.{least, most, layersOf, tooShort, tooLong, refusalNumber, shownOf}
 use Rattle.packets.specs.Inside.{TagInside, PacketInside, Packet6Inside, IpInside}
-use Rattle.payloads.specs.Inside.{SegmentInside, DatagramInside, TransportInside, MessageInside, SomeipInside}
+use Rattle.payloads.specs.Inside.{SegmentInside, DatagramInside, TransportInside, BundleInside, SomeipInside}
 use Rattle.layers.specs.Inside.{Inside}
 use Rattle.layers.specs.declared.FrameRefusal.the-variants as refusal
 use Rattle.packets.specs.declared.Link.{Link}
@@ -28,7 +28,7 @@ use Rattle.payloads.specs.declared.Segment.{Segment}
 use Rattle.payloads.specs.declared.Datagram.{Datagram}
 use Rattle.payloads.specs.declared.Transport.{Transport}
 use Rattle.payloads.specs.declared.Transport.the-variants as transport
-use Rattle.payloads.specs.declared.Message.{Message}
+use Rattle.payloads.specs.declared.Bundle.{Bundle}
 use Rattle.payloads.specs.declared.Someip.the-variants as someip
 use Rattle.layers.specs.declared.Layers.{Layers}
 use Rattle.layers.specs.declared.Shown.{Shown}
@@ -56,11 +56,11 @@ link-inside s e =
     (λ q. (short-fits s e .1 q, omega arith))
     (λ q. (short-fits s e .0, tt))
 
-over : (s : List ℕ) (m : Message) (t : Transport) → someipOf s t ≡ someip.Present m → (u : Datagram) × (t ≡ transport.Udp u)
+over : (s : List ℕ) (b : Bundle) (t : Transport) → someipOf s t ≡ someip.Present b → (u : Datagram) × (t ≡ transport.Udp u)
 unfolding someipOf
-over s m transport.Absent q = let z : _≡_ {A = ℕ} 0 1 = cc in absurd (omega arith)
-over s m (transport.Tcp t) q = let z : _≡_ {A = ℕ} 0 1 = cc in absurd (omega arith)
-over s m (transport.Udp u) q = (u, refl)
+over s b transport.Absent q = let z : _≡_ {A = ℕ} 0 1 = cc in absurd (omega arith)
+over s b (transport.Tcp t) q = let z : _≡_ {A = ℕ} 0 1 = cc in absurd (omega arith)
+over s b (transport.Udp u) q = (u, refl)
 
 -- ---- what an answer that shows the layers says
 
@@ -119,8 +119,8 @@ module _ (s : List ℕ) (l : Layers) (e : shownOf s ≡ shown.Shows l) where
   no-transport q = transport-is ∙ ap (transportOf s) q
 
   -- SOME/IP over UDP alone
-  pub someip-udp : (m : Message) → l .someip ≡ someip.Present m → (u : Datagram) × (l .transport ≡ transport.Udp u)
-  someip-udp m q = over s m (l .transport) (sym someip-is ∙ q)
+  pub someip-udp : (b : Bundle) → l .someip ≡ someip.Present b → (u : Datagram) × (l .transport ≡ transport.Udp u)
+  someip-udp b q = over s b (l .transport) (sym someip-is ∙ q)
 
 -- of a layer that a caller has found
 module _ (s : List ℕ) (l : Layers) (w : Inside s l) where
@@ -136,8 +136,8 @@ module _ (s : List ℕ) (l : Layers) (w : Inside s l) where
   pub datagram-inside : (u : Datagram) → l .transport ≡ transport.Udp u → DatagramInside s u
   datagram-inside u e = subst (TransportInside s) e (w .transport)
 
-  pub message-inside : (m : Message) → l .someip ≡ someip.Present m → MessageInside s m
-  message-inside m e = subst (SomeipInside s) e (w .someip)
+  pub bundle-inside : (b : Bundle) → l .someip ≡ someip.Present b → BundleInside s b
+  bundle-inside b e = subst (SomeipInside s) e (w .someip)
 
 -- ---- the refusals
 

@@ -1,12 +1,13 @@
 -- A layer that is present matches where every setting agrees, since an unset one always does.
 -- Assumes nothing.
-use Prim.Native.Nat.{ℕ}
+use Prim.Native.Nat.{ℕ, _+_, _-_, _≤_, _<_}
 use mathlib.Core.Path.{_≡_, refl, sym, ap, _∙_}
 use mathlib.Core.List.{List, [], _∷_, _++_}
 use mathlib.Core.Bool.{Bool, true, false, _&&_, _||_, not, or-false, and-true, and-false}
 use borrow.Author.Tests.{not-true, not-false}
 use lib.Dec.{eqb}
-use Rattle.numbers.specs.Lists.{every}
+use native.Mathlib.Omega.{arith}
+use Rattle.numbers.specs.Lists.{every, everyOf}
 use Rattle.numbers.proofs.Lists.{and-both, and-true-true, every-append}
 use Rattle.packets.specs.declared.Packet.{Packet}
 use Rattle.packets.specs.declared.Packet6.{Packet6}
@@ -17,8 +18,12 @@ use Rattle.payloads.specs.declared.Datagram.{Datagram}
 use Rattle.payloads.specs.declared.Transport.{Transport}
 use Rattle.payloads.specs.declared.Transport.the-variants as transport
 use Rattle.payloads.specs.declared.Message.{Message}
+use Rattle.payloads.specs.declared.Bundle.{Bundle}
 use Rattle.payloads.specs.declared.Someip.{Someip}
 use Rattle.payloads.specs.declared.Someip.the-variants as someip
+use Rattle.payloads.specs.Someip.{messageAt, cut, messagesIn, messagesOf}
+use Rattle.payloads.specs.Inside.{CutInside}
+use Rattle.payloads.proofs.Cutting.{Walked, walked, cut-nothing}
 use Rattle.table.specs.declared.Kind.{Kind}
 use Rattle.table.specs.declared.Kind.the-variants as kind
 use Rattle.table.specs.declared.Ipv4Settings.{Ipv4Settings}
@@ -40,7 +45,7 @@ use Rattle.table.specs.Settings.{
 }
 use Rattle.table.proofs.SettingLaws.{unset-agrees}
 use Rattle.table.specs.Marks.{ipv4Unset, ipv6Unset, ipUnset, transportUnset, someipUnset}
-use Rattle.matching.specs.Matching.{ipv4Tests, numberAgrees, ipv6Tests, ipMatches, portsAgree, transportMatches, messageAgrees, someipMatches}
+use Rattle.matching.specs.Matching.{ipv4Tests, numberAgrees, ipv6Tests, ipMatches, portsAgree, transportMatches, messageAgrees, messagesAgree, someipMatches}
 
 -- each test of the first list that passes has its partner pass
 abbrev pub Partners : List Bool → List Bool → Type 0
@@ -157,27 +162,43 @@ pub transport-udp : (r : TransportSettings) (x : Transport) (u : Datagram) → x
 unfolding transportMatches
 transport-udp r x u e = rw e (ports-present r kind.Udp (u .source) (u .destination))
 
-pub someip-absent : (r : SomeipSettings) (s : List ℕ) (x : Someip) → x ≡ someip.Absent → every (someipUnset r) ≡ someipMatches r s x
-unfolding someipMatches
-someip-absent r s x e = rw e (absent (someipUnset r))
+-- ---- SOME/IP: a is what the code found of its marks, c of its messages
 
-pub someip-present : (r : SomeipSettings) (s : List ℕ) (x : Someip) (m : Message) → x ≡ someip.Present m → messageAgrees r m ≡ someipMatches r s x
-unfolding someipMatches
-someip-present r s x m e =
-    rw (e, and-true (messageAgrees r m))
-    (present (someipUnset r)
-    (agrees eqb (of16 (r .service)) (m .service)
-    ∷ agrees eqb (of16 (r .method)) (m .method)
-    ∷ agrees eqb (of8 (r .version)) (m .version)
-    ∷ agrees eqb (of8 (r .kind)) (m .kind)
-    ∷ agrees eqb (of8 (r .code)) (m .code)
-    ∷ []) (
-      unset-agrees eqb (of16 (r .service)) (m .service),
-      (
-        unset-agrees eqb (of16 (r .method)) (m .method),
-        (
-          unset-agrees eqb (of8 (r .version)) (m .version),
-          (unset-agrees eqb (of8 (r .kind)) (m .kind), (unset-agrees eqb (of8 (r .code)) (m .code), tt)),
-        ),
-      ),
-    ))
+module _ (r : SomeipSettings) (s : List ℕ) (x : Someip) where
+  pub someip-unset : {a : Bool} → a ≡ every (someipUnset r) → a ≡ true → true ≡ someipMatches r s x
+  unfolding someipMatches
+  someip-unset e h = let q : every (someipUnset r) ≡ true = sym e ∙ h in rw q refl
+
+  someip-set : {a c : Bool} → a ≡ every (someipUnset r) → a ≡ false → c ≡ messagesAgree r (messagesOf s x) → c ≡ someipMatches r s x
+  unfolding someipMatches
+  someip-set e h k = let q : every (someipUnset r) ≡ false = sym e ∙ h in rw q k
+
+  pub someip-lacks : {a : Bool} → a ≡ every (someipUnset r) → a ≡ false → x ≡ someip.Absent → false ≡ someipMatches r s x
+  someip-lacks e h k = someip-set e h (ap (λ (y : Someip). messagesAgree r (messagesOf s y)) (sym k))
+
+  pub someip-tells :
+      {a c : Bool} {z : SomeipSettings} (b : Bundle) → a ≡ every (someipUnset r) → a ≡ false → x ≡ someip.Present b → z ≡ r
+      → c ≡ messagesAgree z (messagesOf s (someip.Present b)) → c ≡ someipMatches r s x
+  someip-tells b e h k q g = someip-set e h (rw (k, ← q) g)
+
+-- every message of those still to be read agrees
+abbrev pub restAgrees : SomeipSettings → List ℕ → ℕ → ℕ → Bool
+restAgrees r s at len = everyOf (messageAgrees r) (messagesIn (cut s at len))
+
+module _ (r : SomeipSettings) (s : List ℕ) (at len : ℕ) where
+  -- of a bundle, which has a message, that is all there is to say
+  pub bundle-agrees : CutInside s at len → 0 < len → restAgrees r s at len ≡ messagesAgree r (messagesIn (cut s at len))
+  bundle-agrees w h = rw (walked s at len (messageAt s at) w h refl .is) refl
+
+  -- the first agrees, and the others tell
+  pub agree-on :
+      {b : Bool} (m : Message) → Walked s at len m → b ≡ messageAgrees r m → not b ≡ false
+      → restAgrees r s at len ≡ restAgrees r s (at + m .size) (len - m .size)
+  agree-on m w e h = let q : messageAgrees r m ≡ true = sym e ∙ not-false _ h in rw (w .is, q) refl
+
+  -- the first does not
+  pub agree-ends : {b : Bool} (m : Message) → Walked s at len m → b ≡ messageAgrees r m → not b ≡ true → restAgrees r s at len ≡ false
+  agree-ends m w e h = let q : messageAgrees r m ≡ false = sym e ∙ not-true _ h in rw (w .is, q) refl
+
+  pub agree-nothing : len ≤ 0 → restAgrees r s at len ≡ true
+  agree-nothing h = let e : len ≡ 0 = omega arith in rw (e, cut-nothing s at) refl

@@ -1,4 +1,4 @@
--- Does a layer match, and does a rule. Document 01, 'Rules and vehicle states'; change request 2/12.
+-- Does a layer match, and does a rule. Document 01, 'Rules and vehicle states'; change requests 2/12 and 3/12.
 -- s is the frame's bytes.
 -- Assumes nothing.
 use Prim.Native.Nat.{ℕ}
@@ -19,7 +19,7 @@ use Rattle.payloads.specs.declared.Transport.{Transport}
 use Rattle.payloads.specs.declared.Transport.the-variants as transport
 use Rattle.payloads.specs.declared.Message.{Message}
 use Rattle.payloads.specs.declared.Someip.{Someip}
-use Rattle.payloads.specs.declared.Someip.the-variants as someip
+use Rattle.payloads.specs.Someip.{messagesOf}
 use Rattle.layers.specs.Seen.{Seen}
 use Rattle.table.specs.declared.Kind.{Kind}
 use Rattle.table.specs.declared.Kind.the-variants as kind
@@ -111,11 +111,7 @@ transportAgrees r (transport.Udp u) = portsAgree r kind.Udp (u .source) (u .dest
 unfoldable pub transportMatches : TransportSettings → Transport → Bool
 transportMatches r x = layerMatches (transportUnset r) (transportAgrees r x)
 
--- SOME/IP: the messages of the layer, none where it is absent. "The first message only is read"
-abbrev pub messagesOf : List ℕ → Someip → List Message
-messagesOf s someip.Absent = []
-messagesOf s (someip.Present m) = m ∷ []
-
+-- SOME/IP
 abbrev pub messageAgrees : SomeipSettings → Message → Bool
 messageAgrees r m =
     every
@@ -126,6 +122,7 @@ messageAgrees r m =
     ∷ agrees eqb (of8 (r .code)) (m .code)
     ∷ [])
 
+-- 3/12: "SOME/IP settings agree exactly when they agree for every message", and with no message where the layer is absent
 abbrev pub messagesAgree : SomeipSettings → List Message → Bool
 messagesAgree r [] = false
 messagesAgree r (m ∷ ms) = everyOf (messageAgrees r) (m ∷ ms)

@@ -1,12 +1,17 @@
 // Does a layer of a rule match what a frame shows of it, and does the rule?
 ghost use mathlib.Core.Path.{_≡_};
 ghost use Rattle.numbers.specs.Lists.{every, leading};
+ghost use Rattle.payloads.specs.declared.Someip.the-variants.{Present};
+ghost use Rattle.payloads.specs.Someip.{messagesOf};
+ghost use Rattle.payloads.specs.Inside.{BundleInside, SomeipInside};
+ghost use Rattle.layers.specs.Inside.{Inside};
 ghost use Rattle.layers.specs.Seen.{seen};
-ghost use Rattle.matching.specs.Matching.{tagTests, linkMatches, ipv4Tests, ipv6Tests, ipMatches, portsAgree, transportMatches, someipMatches, layerTests};
-ghost use Rattle.table.specs.Words.{ipv4In, ipv6In, ruleIn};
+ghost use Rattle.matching.specs.Matching.{tagTests, linkMatches, ipv4Tests, ipv6Tests, ipMatches, portsAgree, transportMatches, messageAgrees, messagesAgree, someipMatches, layerTests};
+ghost use Rattle.table.specs.Words.{ipv4In, ipv6In, someipIn, ruleIn};
 use crate::agrees::*;
 use layers::Layers;
 use packets::*;
+use payloads::someip_layer::message_at;
 use payloads::*;
 use table::settings::*;
 use table::words;
@@ -127,25 +132,55 @@ pub(crate) fn transport_matches(r: TransportSettings, x: Transport) -> bool
     }
 }
 
-pub(crate) fn someip_matches(r: SomeipSettings, s: &[u8], x: Someip) -> bool
-    ensures { λ g. ⌜ g ≡ someipMatches r (now (s .entry)) x ⌝ }
+fn message_agrees(r: SomeipSettings, m: Message) -> bool
+    ensures { λ g. ⌜ g ≡ messageAgrees r m ⌝ }
 {
     let service = r.service;
     let method = r.method;
     let version = r.version;
     let kind = r.kind;
     let code = r.code;
+    agrees16(service, m.service)
+        & (agrees16(method, m.method)
+            & (agrees8(version, m.version) & (agrees8(kind, m.kind) & agrees8(code, m.code))))
+}
+
+// Every message, read one behind the other as the rule asks for it.
+fn messages_agree(r: SomeipSettings, s: &[u8], b: Bundle) -> bool
+    requires { ⌜ BundleInside (now s) b ⌝ }
+    ensures { λ g. ⌜ g ≡ messagesAgree r (messagesOf (now (s .entry)) (Present b)) ⌝ }
+{
+    let mut at = b.payload;
+    let mut len = b.plen;
+    while len > 0 {
+        let m = message_at(s, at);
+        let size = m.size;
+        if !message_agrees(r, m) {
+            return false;
+        }
+        at += size;
+        len -= size;
+    }
+    true
+}
+
+// No setting: every frame. Else the layer is present and each message agrees.
+pub(crate) fn someip_matches(r: &RuleWords, s: &[u8], x: Someip) -> bool
+    requires { ⌜ SomeipInside (now s) x ⌝ }
+    ensures { λ g. ⌜ g ≡ someipMatches (someipIn (now (r .entry))) (now (s .entry)) x ⌝ }
+{
+    if words::no_someip(r) {
+        return true;
+    }
     match x {
-        Someip::Absent => unset16(service)
-            & (unset16(method) & (unset8(version) & (unset8(kind) & unset8(code)))),
-        Someip::Present(m) => agrees16(service, m.service)
-            & (agrees16(method, m.method)
-                & (agrees8(version, m.version) & (agrees8(kind, m.kind) & agrees8(code, m.code)))),
+        Someip::Absent => false,
+        Someip::Present(b) => messages_agree(words::someip(r), s, b),
     }
 }
 
 // The layers that match, from link upward to the first that does not.
 pub fn layers_matched(r: &RuleWords, s: &[u8], l: Layers) -> usize
+    requires { ⌜ Inside (now s) l ⌝ }
     ensures { λ n. ⌜ n ≡ leading (layerTests (ruleIn (now (r .entry))) (seen (now (s .entry)) l)) ⌝ }
 {
     let ip = l.ip;
@@ -160,7 +195,7 @@ pub fn layers_matched(r: &RuleWords, s: &[u8], l: Layers) -> usize
     if !transport_matches(words::transport(r), transport) {
         return 2;
     }
-    if !someip_matches(words::someip(r), s, someip) {
+    if !someip_matches(r, s, someip) {
         return 3;
     }
     4

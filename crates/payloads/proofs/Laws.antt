@@ -1,8 +1,8 @@
 -- Laws of the definitions of specs/: what a caller knows of them without opening them.
 -- Assumes nothing.
-use Prim.Native.Nat.{ℕ, _+_, _*_, _≤_}
-use mathlib.Core.Path.{_≡_, refl}
-use mathlib.Core.List.{List}
+use Prim.Native.Nat.{ℕ, zero, suc, _+_, _*_, _≤_}
+use mathlib.Core.Path.{_≡_, refl, ap}
+use mathlib.Core.List.{List, [], _∷_}
 use mathlib.Core.Bool.{true}
 use native.Mathlib.Omega.{arith}
 use lib.ListN.{length}
@@ -24,7 +24,8 @@ use Rattle.payloads.specs.Transport.{
   transportAfter,
   transportOf,
 }
-use Rattle.payloads.specs.Someip.{someipBytes, someipTests, someipHere, messageAt, someipAt, someipOf}
+use Rattle.payloads.specs.Someip.{Cut, Fails, Into, cut, doesCut, presentIf, someipAt, someipOf}
+use Rattle.payloads.proofs.Cutting.{nothing-first}
 use Rattle.packets.specs.Inside.{ChainInside, IpInside}
 use Rattle.payloads.specs.Inside.{TransportInside, SomeipInside}
 use Rattle.packets.specs.declared.Chain.{Chain}
@@ -46,10 +47,6 @@ module _ (s : List ℕ) (protocol at len : ℕ) where
   pub udp-fits : udpHere s protocol at len ≡ true → udpBytes ≤ len
   unfolding udpHere udpTests
   udp-fits e = leb-true _ _ (every-at (udpTests s protocol at len) 1 e)
-
-pub someip-fits : (s : List ℕ) (at len : ℕ) → someipHere s at len ≡ true → someipBytes ≤ len
-unfolding someipHere someipTests
-someip-fits s at len e = leb-true _ _ (every-at (someipTests s at len) 0 e)
 
 -- ---- each layer lies within the frame
 
@@ -81,11 +78,18 @@ transport-inside s (ip.V4 p) w =
     (λ h. tt)
 transport-inside s (ip.V6 p) w = after-inside s (p .chain) (w .chain)
 
+at-bundle : (s : List ℕ) (at len : ℕ) → at + len ≤ length s → SomeipInside s (someipAt s at len)
+unfolding someipAt
+at-bundle s at len b = go len (cut s at len) refl b
+  where
+    go : (n : ℕ) (c : Cut) → cut s at n ≡ c → at + n ≤ length s → SomeipInside s (presentIf at n c)
+    go n Fails e h = tt
+    go n (Into []) e h = tt
+    go zero (Into (m ∷ ms)) e h = absurd (nothing-first s at m ms e)
+    go (suc l) (Into (m ∷ ms)) e h = record { some = omega arith; cut = record { bytes = h; cuts = ap doesCut e } }
+
 pub someip-inside : (s : List ℕ) (t : Transport) → TransportInside s t → SomeipInside s (someipOf s t)
-unfolding someipOf someipAt messageAt
+unfolding someipOf
 someip-inside s transport.Absent w = tt
 someip-inside s (transport.Tcp t) w = tt
-someip-inside s (transport.Udp u) w =
-    cond-both (SomeipInside s) (someipHere s (u .payload) (u .plen)) _ _
-    (λ h. record { header = omega (arith, w .payload, someip-fits s (u .payload) (u .plen) h) })
-    (λ h. tt)
+someip-inside s (transport.Udp u) w = at-bundle s (u .payload) (u .plen) (w .payload)

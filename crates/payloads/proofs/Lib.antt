@@ -1,3 +1,5 @@
 pub mod Laws
 pub mod OnTransport
+pub mod Cutting
+pub mod MeaningLaws
 pub mod OnSomeip

@@ -1,32 +1,82 @@
 -- SOME/IP: each test of its definition, as a law that the proofs cite by what a branch knows.
 -- Assumes nothing.
-use Prim.Native.Nat.{ℕ, _-_, _≤_, _<_}
-use mathlib.Core.Path.{_≡_}
-use mathlib.Core.List.{List}
-use mathlib.Core.Bool.{true, false, and-false, and-true}
+use Prim.Native.Nat.{ℕ, _+_, _-_, _≤_, _<_}
+use mathlib.Core.Path.{_≡_, refl, sym, ap, _∙_}
+use mathlib.Core.List.{List, [], _∷_}
+use mathlib.Core.Bool.{Bool, true, false, not, false≢true}
+use native.Mathlib.Omega.{arith}
 use lib.Dec.{leb}
-use borrow.Author.Tests.{le-leb, lt-leb}
-use Rattle.payloads.specs.Someip.{someipBytes, leastLength, uncounted, lengthField, someipTests, someipHere, messageAt, someipAt}
+use borrow.Author.Tests.{le-leb, lt-leb, not-true, not-false}
+use Rattle.payloads.specs.Someip.{
+  someipBytes,
+  leastLength,
+  uncounted,
+  lengthField,
+  sizeAt,
+  messageHere,
+  Cut,
+  Fails,
+  Into,
+  cut,
+  doesCut,
+  presentIf,
+  someipAt,
+}
 use Rattle.payloads.specs.declared.Someip.the-variants as someip
+use Rattle.payloads.proofs.Cutting.{here-fits, cut-nothing, cut-on, cut-stops, cut-some}
 
 module _ (s : List ℕ) (at len : ℕ) where
-  pub someip-short : len < someipBytes → false ≡ someipHere s at len
-  unfolding someipHere someipTests
-  someip-short h = simp (lt-leb someipBytes len h)
+  -- a message has 16 bytes at least
+  pub here-short : len < someipBytes → false ≡ messageHere s at len
+  here-short h = go (messageHere s at len) refl
+    where
+      go : (b : Bool) → messageHere s at len ≡ b → false ≡ b
+      go false e = refl
+      go true e = let f = here-fits s at len e in absurd (omega (arith, f .0, f .1))
 
-  pub someip-small : lengthField s at < leastLength → false ≡ someipHere s at len
-  unfolding someipHere someipTests
-  someip-small h = simp (lt-leb leastLength (lengthField s at) h, and-false)
+  pub here-small : {n : ℕ} → n ≡ lengthField s at → n < leastLength → false ≡ messageHere s at len
+  unfolding messageHere
+  here-small e h = simp (lt-leb leastLength (lengthField s at) (rw e at h))
 
-  pub someip-by-length :
-      (n : ℕ) → n ≡ lengthField s at → someipBytes ≤ len → leastLength ≤ n → leb n (len - uncounted) ≡ someipHere s at len
-  unfolding someipHere someipTests
-  someip-by-length n e h l = simp (e, le-leb someipBytes len h, le-leb leastLength (lengthField s at) (rw e at l), and-true)
+  pub here-by-size : {n : ℕ} → n ≡ lengthField s at → leastLength ≤ n → leb (uncounted + n) len ≡ messageHere s at len
+  unfolding messageHere
+  here-by-size e h = simp (e, le-leb leastLength (lengthField s at) (rw e at h))
 
-  pub someip-present : someipHere s at len ≡ true → someip.Present (messageAt s at) ≡ someipAt s at len
+  -- ---- a turn of the walk
+
+  pub cuts-on :
+      {b : Bool} {n : ℕ} → b ≡ messageHere s at len → not b ≡ false → n ≡ sizeAt s at
+      → (someipBytes ≤ n) × (n ≤ len) × (doesCut (cut s at len) ≡ doesCut (cut s (at + n) (len - n)))
+  cuts-on p q e =
+      let h = sym p ∙ not-false _ q in
+      let f = here-fits s at len h in
+      rw e (omega (arith, f .0), f .1, cut-on s at len h)
+
+  pub cuts-ends : {b : Bool} → b ≡ messageHere s at len → not b ≡ true → 0 < len → doesCut (cut s at len) ≡ false
+  cuts-ends p q h = ap doesCut (cut-stops s at len h (sym p ∙ not-true _ q))
+
+  pub cuts-nothing : len ≤ 0 → doesCut (cut s at len) ≡ true
+  cuts-nothing h = let e : len ≡ 0 = omega arith in rw e (ap doesCut (cut-nothing s at))
+
+  -- ---- the layer
+
+  pub someip-present : 0 < len → doesCut (cut s at len) ≡ true → someip.Present (record { payload = at; plen = len }) ≡ someipAt s at len
   unfolding someipAt
-  someip-present e = simp e
+  someip-present h e = go (cut s at len) refl e
+    where
+      go : (c : Cut) → cut s at len ≡ c → doesCut c ≡ true → someip.Present (record { payload = at; plen = len }) ≡ presentIf at len c
+      go Fails q d = absurd (false≢true d)
+      go (Into []) q d = absurd (cut-some s at len h q)
+      go (Into (m ∷ ms)) q d = refl
 
-  pub someip-absent : someipHere s at len ≡ false → someip.Absent ≡ someipAt s at len
+  pub someip-absent : doesCut (cut s at len) ≡ false → someip.Absent ≡ someipAt s at len
   unfolding someipAt
-  someip-absent e = simp e
+  someip-absent e = go (cut s at len) e
+    where
+      go : (c : Cut) → doesCut c ≡ false → someip.Absent ≡ presentIf at len c
+      go Fails d = refl
+      go (Into ms) d = absurd (false≢true (sym d))
+
+  pub someip-nothing : len ≡ 0 → someip.Absent ≡ someipAt s at len
+  unfolding someipAt
+  someip-nothing e = rw (e, cut-nothing s at) refl

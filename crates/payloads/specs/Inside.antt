@@ -1,16 +1,17 @@
--- What a reader of transport and SOME/IP may count on: every offset and length lies within the frame.
+-- What a reader of transport and SOME/IP may count on: every offset and length lies within the frame, and a bundle cuts.
 -- Assumes nothing.
-use Prim.Native.Nat.{ℕ, _+_, _≤_}
+use Prim.Native.Nat.{ℕ, _+_, _≤_, _<_}
 use mathlib.Core.Path.{_≡_}
 use mathlib.Core.List.{List}
+use mathlib.Core.Bool.{true}
 use lib.ListN.{length}
 use Rattle.payloads.specs.Transport.{tcpBytes, udpBytes}
-use Rattle.payloads.specs.Someip.{someipBytes}
+use Rattle.payloads.specs.Someip.{cut, doesCut}
 use Rattle.payloads.specs.declared.Segment.{Segment}
 use Rattle.payloads.specs.declared.Datagram.{Datagram}
 use Rattle.payloads.specs.declared.Transport.{Transport}
 use Rattle.payloads.specs.declared.Transport.the-variants as transport
-use Rattle.payloads.specs.declared.Message.{Message}
+use Rattle.payloads.specs.declared.Bundle.{Bundle}
 use Rattle.payloads.specs.declared.Someip.{Someip}
 use Rattle.payloads.specs.declared.Someip.the-variants as someip
 
@@ -30,11 +31,17 @@ TransportInside s transport.Absent = Unit {0}
 TransportInside s (transport.Tcp t) = SegmentInside s t
 TransportInside s (transport.Udp u) = DatagramInside s u
 
--- a SOME/IP header's 16 bytes
-pub record MessageInside (s : List ℕ) (m : Message) : Type 0 where
-  pub header : m .header + someipBytes ≤ length s
+-- bytes that cut into messages
+pub record CutInside (s : List ℕ) (at len : ℕ) : Type 0 where
+  pub bytes : at + len ≤ length s
+  pub cuts : doesCut (cut s at len) ≡ true
+
+-- one or more messages
+pub record BundleInside (s : List ℕ) (b : Bundle) : Type 0 where
+  pub some : 0 < b .plen
+  pub cut : CutInside s (b .payload) (b .plen)
 
 -- SOME/IP, where it is present
 abbrev pub SomeipInside : List ℕ → Someip → Type 0
 SomeipInside s someip.Absent = Unit {0}
-SomeipInside s (someip.Present m) = MessageInside s m
+SomeipInside s (someip.Present b) = BundleInside s b

@@ -1,3 +1,4 @@
 pub mod Transport
 pub mod Someip
 pub mod Inside
+pub mod Meaning

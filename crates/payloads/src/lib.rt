@@ -28,6 +28,7 @@ pub enum Transport {
     Udp(Datagram),
 }
 
+// One SOME/IP message: its header counts from the frame's start, size are all its bytes.
 pub struct Message {
     pub service: u16,
     pub method: u16,
@@ -35,9 +36,16 @@ pub struct Message {
     pub kind: u8,
     pub code: u8,
     pub header: usize,
+    pub size: usize,
+}
+
+// One or more whole messages, one behind the other: the payload of a datagram that cuts into them.
+pub struct Bundle {
+    pub payload: usize,
+    pub plen: usize,
 }
 
 pub enum Someip {
     Absent,
-    Present(Message),
+    Present(Bundle),
 }

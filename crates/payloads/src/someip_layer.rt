@@ -1,8 +1,8 @@
-// SOME/IP: is a message present in a UDP payload, and what its header says.
+// SOME/IP: does a UDP payload cut into whole messages, and what a message says.
 ghost use mathlib.Core.Path.{_≡_};
-ghost use Prim.Native.Nat.{_+_, _≤_};
+ghost use Prim.Native.Nat.{_+_, _≤_, _<_};
 ghost use lib.ListN.{length};
-ghost use Rattle.payloads.specs.Someip.{someipBytes, someipHere, messageAt, someipAt, someipOf};
+ghost use Rattle.payloads.specs.Someip.{someipBytes, uncounted, lengthField, messageHere, messageAt, cut, doesCut, someipAt, someipOf};
 ghost use Rattle.payloads.specs.Inside.{TransportInside};
 use crate::*;
 use numbers::count32;
@@ -27,21 +27,33 @@ const LEAST_LENGTH: usize = 8;
 
 const UNCOUNTED: usize = 8;
 
-fn someip_here(s: &[u8], at: usize, len: usize) -> bool
+// The Length of the message at `at`.
+fn length_at(s: &[u8], at: usize) -> usize
+    requires { ⌜ at + uncounted ≤ length (now s) ⌝ }
+    ensures value { λ r. ⌜ r ≡ lengthField (now (s .entry)) at ⌝ }
+    ensures bound { λ r. ⌜ r < 4294967296 ⌝ }
+{
+    count32(read32(s, at + LENGTH_AT))
+}
+
+// Does a whole message stand first in these bytes?
+fn message_here(s: &[u8], at: usize, len: usize) -> bool
     requires { ⌜ at + len ≤ length (now s) ⌝ }
-    ensures { λ r. ⌜ r ≡ someipHere (now (s .entry)) at len ⌝ }
+    ensures { λ r. ⌜ r ≡ messageHere (now (s .entry)) at len ⌝ }
 {
     if len < SOMEIP_BYTES {
         return false;
     }
-    let rest = count32(read32(s, at + LENGTH_AT));
-    if rest < LEAST_LENGTH {
+    let counted = length_at(s, at);
+    if counted < LEAST_LENGTH {
         return false;
     }
-    rest <= len - UNCOUNTED
+    UNCOUNTED + counted <= len
 }
 
-fn message_at(s: &[u8], at: usize) -> Message
+/// The message at `at` of the frame's bytes s, where one stands. The first of a bundle is at its payload, each other `size` bytes behind the
+/// one before it, and `plen` less those bytes is what is left to read: law `walked` of proofs/Cutting.
+pub fn message_at(s: &[u8], at: usize) -> Message
     requires { ⌜ at + someipBytes ≤ length (now s) ⌝ }
     ensures { λ r. ⌜ r ≡ messageAt (now (s .entry)) at ⌝ }
 {
@@ -52,15 +64,41 @@ fn message_at(s: &[u8], at: usize) -> Message
         kind: s[at + KIND_AT],
         code: s[at + CODE_AT],
         header: at,
+        size: UNCOUNTED + length_at(s, at),
     }
 }
 
+// Goes from message to message by their Length, up to the payload's end.
+fn cuts(s: &[u8], payload: usize, plen: usize) -> bool
+    requires { ⌜ payload + plen ≤ length (now s) ⌝ }
+    ensures { λ r. ⌜ r ≡ doesCut (cut (now (s .entry)) payload plen) ⌝ }
+{
+    let mut at = payload;
+    let mut len = plen;
+    while len > 0 {
+        if !message_here(s, at, len) {
+            return false;
+        }
+        let size = UNCOUNTED + length_at(s, at);
+        at += size;
+        len -= size;
+    }
+    true
+}
+
+// One or more messages: no bytes are none.
 fn someip_at(s: &[u8], at: usize, len: usize) -> Someip
     requires { ⌜ at + len ≤ length (now s) ⌝ }
     ensures { λ r. ⌜ r ≡ someipAt (now (s .entry)) at len ⌝ }
 {
-    if someip_here(s, at, len) {
-        Someip::Present(message_at(s, at))
+    if len == 0 {
+        return Someip::Absent;
+    }
+    if cuts(s, at, len) {
+        Someip::Present(Bundle {
+            payload: at,
+            plen: len,
+        })
     } else {
         Someip::Absent
     }

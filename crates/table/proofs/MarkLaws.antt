@@ -1,21 +1,23 @@
--- A setting is unset exactly where its mark does not stand; three marks side by side.
+-- A setting is unset exactly where its mark does not stand; marks side by side.
 -- Assumes nothing.
 use Prim.Native.Nat.{ℕ, zero, suc, _+_, _*_, _/_, _%_, _^_, _<_}
-use mathlib.Core.Path.{_≡_, refl, sym, _∙_}
+use mathlib.Core.Path.{_≡_, refl, sym, ap, _∙_}
 use mathlib.Core.List.{List, [], _∷_}
-use mathlib.Core.Bool.{Bool, true, false, cond, not}
+use mathlib.Core.Bool.{Bool, true, false, cond, not, _&&_}
+use native.Mathlib.Numerals.{add-one}
 use native.Mathlib.Omega.{arith}
 use borrow.Author.Tests.{eq-eqb, ne-eqb, eqb-true, eqb-false}
 use lib.Dec.{eqb}
-use lib.Pow.{shr-shr}
+use lib.Pow.{shr-shr, mod-pow-add}
 use Rattle.numbers.specs.Lists.{every}
-use Rattle.table.specs.Bits.{sourcePrefixMark, source6PrefixMark}
-use Rattle.table.specs.Marks.{ipv4Unset, ipv6Unset}
-use Rattle.table.specs.Settings.{of8, ofPrefix, ofPrefix6, isUnset}
+use Rattle.table.specs.Bits.{sourcePrefixMark, source6PrefixMark, serviceMark}
+use Rattle.table.specs.Marks.{ipv4Unset, ipv6Unset, someipUnset}
+use Rattle.table.specs.Settings.{of8, of16, ofPrefix, ofPrefix6, isUnset}
 use Rattle.table.specs.Table.{marked}
-use Rattle.table.specs.Words.{ipWord, word, isSet, setting8In, prefixIn, prefix6In, ipv4In, ipv6In}
+use Rattle.table.specs.Words.{ipWord, someipWord, word, isSet, setting8In, setting16In, prefixIn, prefix6In, ipv4In, ipv6In, someipIn}
 use Rattle.table.specs.declared.Setting8.{Setting8}
 use Rattle.table.specs.declared.Setting8.the-variants as set8
+use Rattle.table.specs.declared.Setting16.the-variants as set16
 use Rattle.table.specs.declared.Prefix.{Prefix}
 use Rattle.table.specs.declared.PrefixSetting.the-variants as setPrefix
 use Rattle.table.specs.declared.Prefix6.{Prefix6}
@@ -27,6 +29,10 @@ unset8 : (b : Bool) (v : ℕ) → isUnset (of8 (cond b (set8.Set v) set8.Unset))
 unset8 true v = refl
 unset8 false v = refl
 
+unset16 : (b : Bool) (v : ℕ) → isUnset (of16 (cond b (set16.Set v) set16.Unset)) ≡ not b
+unset16 true v = refl
+unset16 false v = refl
+
 unsetPrefix : (b : Bool) (v : Prefix) → isUnset (ofPrefix (cond b (setPrefix.Set v) setPrefix.Unset)) ≡ not b
 unsetPrefix true v = refl
 unsetPrefix false v = refl
@@ -35,44 +41,54 @@ unsetPrefix6 : (b : Bool) (v : Prefix6) → isUnset (ofPrefix6 (cond b (setPrefi
 unsetPrefix6 true v = refl
 unsetPrefix6 false v = refl
 
--- ---- three marks side by side
+-- ---- marks side by side
 
-bit-zero : (r : ℕ) → r < 2 → eqb r 1 ≡ false → r ≡ 0
-bit-zero zero h e = refl
-bit-zero (suc r) h e = absurd (eqb-false (suc r) 1 e (omega arith))
+-- the n marks from k on do not stand
+abbrev unmarked : ℕ → ℕ → ℕ → List Bool
+unmarked w k zero = []
+unmarked w k (suc n) = not (marked w k) ∷ unmarked w (suc k) n
 
-low-back : (m : ℕ) → m % 8 ≡ m % 2 + 2 * (m / 2 % 2) + 4 * (m / 4 % 2)
-low-back m =
-    let a : m / 2 / 2 ≡ m / 4 = shr-shr m 1 1 in
-    let b : m / 4 / 2 ≡ m / 8 = shr-shr m 2 1 in
-    omega (arith, a, b)
+-- the lowest bit and those above it
+low-first : (a b : ℕ) → b < 2 → (not (eqb b 1) && eqb a 0) ≡ eqb (a * 2 + b) 0
+low-first zero zero h = refl
+low-first (suc a) zero h = ne-eqb (suc a) 0 (λ z. omega arith) ∙ sym (ne-eqb (suc a * 2 + 0) 0 (λ z. omega arith))
+low-first a (suc zero) h = sym (ne-eqb (a * 2 + 1) 0 (λ z. omega arith))
+low-first a (suc (suc b)) h = absurd (omega arith)
 
-low-three : (m : ℕ) (a b c : Bool) → eqb (m % 2) 1 ≡ a → eqb (m / 2 % 2) 1 ≡ b → eqb (m / 4 % 2) 1 ≡ c
-    → every (not a ∷ not b ∷ not c ∷ []) ≡ eqb (m % 8) 0
-low-three m true b c p q r = let x = eqb-true (m % 2) 1 p in sym (ne-eqb (m % 8) 0 (λ z. omega arith))
-low-three m false true c p q r = let x = eqb-true (m / 2 % 2) 1 q in sym (ne-eqb (m % 8) 0 (λ z. omega arith))
-low-three m false false true p q r = let x = eqb-true (m / 4 % 2) 1 r in sym (ne-eqb (m % 8) 0 (λ z. omega arith))
-low-three m false false false p q r =
-    let x = bit-zero (m % 2) (omega arith) p in
-    let y = bit-zero (m / 2 % 2) (omega arith) q in
-    let z = bit-zero (m / 4 % 2) (omega arith) r in
-    sym (eq-eqb (m % 8) 0 (low-back m ∙ rw (x, y, z) refl))
-
-three : (n k : ℕ) → every (not (marked n k) ∷ not (marked n (k + 1)) ∷ not (marked n (k + 2)) ∷ []) ≡ eqb (n / 2 ^ k % 8) 0
+none-marked : (w k n : ℕ) → every (unmarked w k n) ≡ eqb (w / 2 ^ k % 2 ^ n) 0
 unfolding marked
-three n k = rw (← shr-shr n k 1, ← shr-shr n k 2) (low-three (n / 2 ^ k) _ _ _ refl refl refl)
+none-marked w k zero = sym (eq-eqb (w / 2 ^ k % 2 ^ 0) 0 (omega arith))
+none-marked w k (suc n) =
+    let m = w / 2 ^ k in
+    let a : w / 2 ^ suc k ≡ m / 2 ^ 1 = rw (← add-one k) (sym (shr-shr w k 1)) in
+    let b : m % 2 ^ suc n ≡ (m / 2 ^ 1 % 2 ^ n) * 2 + m % 2 = rw (← add-one n) (mod-pow-add m n 1) in
+    ap (λ (x : Bool). not (marked w k) && x) (none-marked w (suc k) n ∙ ap (λ (x : ℕ). eqb (x % 2 ^ n) 0) a)
+    ∙ low-first (m / 2 ^ 1 % 2 ^ n) (m % 2) (omega arith)
+    ∙ ap (λ (x : ℕ). eqb x 0) (sym b)
 
--- ---- the settings of one kind of IP
+-- ---- the settings of a layer
 
 module _ (w : List ℕ) where
   pub ipv4-none : eqb (word w ipWord / 2 ^ sourcePrefixMark % 8) 0 ≡ every (ipv4Unset (ipv4In w))
   unfolding setting8In prefixIn
   ipv4-none =
-      sym (three (word w ipWord) sourcePrefixMark)
+      sym (none-marked (word w ipWord) sourcePrefixMark 3)
       ∙ rw (unsetPrefix (isSet w ipWord 0) _, unsetPrefix (isSet w ipWord 1) _, unset8 (isSet w ipWord 2) _) refl
 
   pub ipv6-none : eqb (word w ipWord / 2 ^ source6PrefixMark % 8) 0 ≡ every (ipv6Unset (ipv6In w))
   unfolding setting8In prefix6In
   ipv6-none =
-      sym (three (word w ipWord) source6PrefixMark)
+      sym (none-marked (word w ipWord) source6PrefixMark 3)
       ∙ rw (unsetPrefix6 (isSet w ipWord 3) _, unsetPrefix6 (isSet w ipWord 4) _, unset8 (isSet w ipWord 5) _) refl
+
+  pub someip-none : eqb (word w someipWord / 2 ^ serviceMark % 32) 0 ≡ every (someipUnset (someipIn w))
+  unfolding setting8In setting16In
+  someip-none =
+      sym (none-marked (word w someipWord) serviceMark 5)
+      ∙ rw (
+        unset16 (isSet w someipWord 0) _,
+        unset16 (isSet w someipWord 1) _,
+        unset8 (isSet w someipWord 2) _,
+        unset8 (isSet w someipWord 3) _,
+        unset8 (isSet w someipWord 4) _,
+      ) refl

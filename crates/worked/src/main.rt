@@ -1,5 +1,7 @@
-// Judges M1 to M11 of the paper's worked set and prints them, a line for each frame; then what a wrong step, a segment over IPv6 and a wrong table are answered.
+// Judges M1 to M11 of the paper's worked set and prints them, a line for each frame; then what a wrong step, a bundle of messages, a segment over IPv6
+// and a wrong table are answered.
 // Everything goes through the entry points.
+mod bundle;
 mod expected;
 mod modem;
 mod page;
@@ -145,6 +147,8 @@ fn main() {
     closing(wrong);
     fresh(&t, &mut head, &mut counts, &mut places);
     wrong::steps(&t, &mut head, &mut counts, &mut places);
+    fresh(&t, &mut head, &mut counts, &mut places);
+    bundle::bundles(&t, &mut head, &mut counts, &mut places);
     modem::segments(&mut head, &mut counts, &mut places);
     wrong::tables(&mut head, &mut counts, &mut places);
     words::settings();

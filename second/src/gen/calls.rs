@@ -54,6 +54,11 @@ impl<W: Write> Gen<W> {
         self.reach.hit("call-layers");
         self.note(layers::read(frame));
         self.output.write_all(b"L")?;
+        self.put_frame(frame)
+    }
+
+    fn put_frame(&mut self, frame: &[u8]) -> io::Result<()> {
+        assert!(frame.len() <= LONGEST_FRAME, "a call can carry a frame");
         self.output.write_all(&(frame.len() as u16).to_be_bytes())?;
         self.output.write_all(frame)
     }
@@ -76,8 +81,7 @@ impl<W: Write> Gen<W> {
         self.output.write_all(b"J")?;
         self.output.write_all(&reading.to_be_bytes())?;
         self.output.write_all(&(space.len() as u16).to_be_bytes())?;
-        self.output.write_all(&(frame.len() as u16).to_be_bytes())?;
-        self.output.write_all(frame)
+        self.put_frame(frame)
     }
 
     fn space(&mut self) -> usize {

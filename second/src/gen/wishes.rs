@@ -3,22 +3,11 @@
 use super::*;
 use crate::modem::{self, Held, ALL, HALVES, IPV4_ALONE, IPV6_ALONE, TRACKED};
 
-/// A frame may be refused for its event space, so that another must come.
-const TRIES: usize = 4;
-
 impl<W: Write> Gen<W> {
     pub(super) fn modem(&mut self) -> io::Result<()> {
         let table = modem::table(&mut self.random);
         self.begin_table(&table)?;
-        for wish in Wish::all() {
-            let before = self.reach.count(&wish.name());
-            for _ in 0..TRIES {
-                if self.reach.count(&wish.name()) == before {
-                    self.now = self.now.saturating_add(self.random.below(3));
-                    self.grant(wish)?;
-                }
-            }
-        }
+        self.until_shown(Wish::all(), Wish::name, Self::grant)?;
         self.print()
     }
 

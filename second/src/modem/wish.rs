@@ -167,7 +167,8 @@ impl Wish {
         let rule = &table.rules[self.place(random)];
         let mut draft = aim(rule, random);
         draft.tags.truncate(1);
-        draft.payload %= 40;
+        draft.messages.truncate(2);
+        draft.shorten();
         draft.carry(Packet::V6);
         draft.chain = chain(random.pick(&[0, 0, 1, 2]), random);
         match self {
@@ -191,11 +192,7 @@ impl Wish {
                 draft.damage = damage;
                 draft.show_damage(Packet::V6);
             }
-            Wish::OtherMessage => {
-                if let Some(message) = &mut draft.message {
-                    message.service ^= 1 << random.below(16);
-                }
-            }
+            Wish::OtherMessage => draft.messages[0].turn(set::SERVICE, random),
             Wish::OtherProtocol => draft.protocol = Some(ICMPV6),
             Wish::Prefix(compared) => compare(rule, compared, &mut draft),
             Wish::Meets(Meeting::AnyIpv6 | Meeting::ProtocolIpv6) => draft.carry(Packet::V4),
@@ -274,7 +271,8 @@ fn damage_name(damage: Damage) -> &'static str {
     }
 }
 
-fn chain(headers: usize, random: &mut Random) -> Vec<Extension> {
+/// So many headers, none of which fails the chain.
+pub fn chain(headers: usize, random: &mut Random) -> Vec<Extension> {
     (0..headers).map(|_| Extension { number: random.pick(&EXTENSIONS), units: random.pick(&[0, 0, 0, 1, 2]) }).collect()
 }
 

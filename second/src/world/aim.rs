@@ -112,14 +112,23 @@ fn aim_transport(rule: &Rule, draft: &mut Draft, random: &mut Random) {
     if !rule.has(set::KIND) {
         draft.kind = Kind::Udp;
     }
-    let drawn = draft.message.unwrap_or_default();
-    draft.message = Some(Message {
-        service: if rule.has(set::SERVICE) { rule.service } else { drawn.service },
-        method: if rule.has(set::METHOD) { rule.method } else { drawn.method },
-        version: if rule.has(set::VERSION) { rule.version } else { drawn.version },
-        message: if rule.has(set::MESSAGE) { rule.message } else { drawn.message },
-        code: if rule.has(set::CODE) { rule.code } else { drawn.code },
-    });
+    if draft.messages.is_empty() {
+        draft.messages.push(draw_message(draft.payload, random));
+    }
+    for message in &mut draft.messages {
+        aim_message(rule, message);
+    }
+}
+
+pub fn aim_message(rule: &Rule, message: &mut Message) {
+    *message = Message {
+        service: if rule.has(set::SERVICE) { rule.service } else { message.service },
+        method: if rule.has(set::METHOD) { rule.method } else { message.method },
+        version: if rule.has(set::VERSION) { rule.version } else { message.version },
+        message: if rule.has(set::MESSAGE) { rule.message } else { message.message },
+        code: if rule.has(set::CODE) { rule.code } else { message.code },
+        payload: message.payload,
+    };
 }
 
 /// Alters one thing of an aimed frame, mostly by as little as can be.
@@ -166,13 +175,11 @@ fn near_bit(prefix: Prefix, random: &mut Random) -> u32 {
     1 << bit.min(31)
 }
 
+/// In one message, be it the first or another.
 fn near_message(draft: &mut Draft, random: &mut Random) {
-    let Some(message) = &mut draft.message else { return };
-    match random.below(5) {
-        0 => message.service ^= 1 << random.below(16),
-        1 => message.method ^= 1 << random.below(16),
-        2 => message.version ^= 1 << random.below(8),
-        3 => message.message ^= 1 << random.below(8),
-        _ => message.code ^= 1 << random.below(8),
+    let count = draft.messages.len() as u64;
+    if count > 0 {
+        let message = &mut draft.messages[random.below(count) as usize];
+        message.turn(random.pick(&SOMEIPS), random);
     }
 }

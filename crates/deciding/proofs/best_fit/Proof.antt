@@ -78,7 +78,7 @@ index-1-score : tie.Need-index-1-score Inv-loop μ-loop
 index-1-score c = omega (arith, goes-on c)
 
 score-requires : tie.Need-score-requires Inv-loop μ-loop
-score-requires c κs = omega (arith, goes-on (c .before))
+score-requires c κs = (omega (arith, goes-on (c .before)), c .before .before .before .before .before .before .before .before .pre .1 .1)
 
 add-i : tie.Need-add-i Inv-loop μ-loop
 add-i c = omega (arith, goes-on (c .before .before .before))

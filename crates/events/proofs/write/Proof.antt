@@ -59,10 +59,12 @@ same-length c = search needs
 returns : tie.Need-returns
 returns c =
     let a = c .before .before .before .before .before .before .before .before .before .before .before .before .before .before .before .args in
+    let p = c .before .before .before .before .before .before .before .before .before .before .before .before .before .before .before .pre in
     let stop = c .before .before .before .before .before .length in record {
       count = stop .ensures ∙ sym (event-length (a .e) (a .id) (now (a .frame)) (a .l));
       left = event-laid (a .e) (a .id) (now (a .frame)) (a .l) (now (a .space)) (c .before .before .before .before .before .before .before .before .before .before .head .last .1 .1 .0) _ (stop .result) (c .before .before .before .before .before .before .before .span-of .result)
-          (c .before .before .before .before .before .before .before .before .before .before .before .before .before .before .before .pre .1 .1)
+          (p .0)
+          (p .1 .1)
           (rw (← c .before .before .before .before .before .before .before .before .before .before .before .before .number .ensures) (c .before .before .before .before .before .before .before .before .before .before .head .ensures))
           (stop .ensures)
           (c .before .before .before .before .before .before .before .span-of .ensures)

@@ -23,7 +23,7 @@ decide-requires : tie.Need-decide-requires
 decide-requires c κs =
     let t = tableIn (now (c .before .before .before .before .args .t)) in
     let p = c .before .before .before .before .pre in
-    (state-small t _ (p .table) (p .records), good-count t (p .table))
+    (state-small t _ (p .table) (p .records), (good-count t (p .table), shows-inside _ _ (p .shows)))
 
 -- who decides, and who fits best
 who : (c : tie.After-decide) → c .decide .result .decider ≡ deciderOf (tableIn (now (c .before .before .before .before .before .args .t))) (getD (now (c .before .before .before .before .before .args .head)) 1 0) (seen (now (c .before .before .before .before .before .args .frame)) (c .before .before .before .before .before .args .l))

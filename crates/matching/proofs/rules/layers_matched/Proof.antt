@@ -2,7 +2,6 @@ use mathlib.Core.Path.{_≡_, refl, ap, _∙_}
 use Rattle.table.specs.Words.{linkIn, ipv4In, ipv6In, transportIn, someipIn}
 use Rattle.table.specs.declared.LinkSettings.{LinkSettings}
 use Rattle.table.specs.declared.TransportSettings.{TransportSettings}
-use Rattle.table.specs.declared.SomeipSettings.{SomeipSettings}
 use Rattle.matching.specs.Matching.{linkMatches, ipMatches, transportMatches, someipMatches, layerTests}
 use Rattle.numbers.proofs.Leading.{count-goes}
 use Rattle.numbers.proofs.Tests.{cond-stops}
@@ -31,10 +30,8 @@ transport-told c =
 someip-told :
     (c : tie.After-someip-matches)
     → c .someip-matches .result
-    ≡ someipMatches (someipIn (c .before .before .before .before .before .before .before .before .before .before .before .args .r .now)) (c .before .before .before .before .before .before .before .before .before .before .before .args .s .now) (c .before .before .before .before .before .before .before .before .before .before .before .args .l .someip)
-someip-told c =
-    c .someip-matches .ensures
-    ∙ ap (λ (x : SomeipSettings). someipMatches x (c .before .before .before .before .before .before .before .before .before .before .before .args .s .now) (c .before .before .before .before .before .before .before .before .before .before .before .args .l .someip)) (c .before .someip .ensures)
+    ≡ someipMatches (someipIn (c .before .before .before .before .before .before .before .before .before .before .args .r .now)) (c .before .before .before .before .before .before .before .before .before .before .args .s .now) (c .before .before .before .before .before .before .before .before .before .before .args .l .someip)
+someip-told c = c .someip-matches .ensures
 
 link-requires : tie.Need-link-requires
 link-requires c κs = search needs
@@ -69,16 +66,13 @@ returns-3 c =
     count-goes (link-told (a .before)) (a .if1 .left)
     (count-goes (ip-told (b .before)) (b .if2 .left) (cond-stops _ (transport-told (c .before)) (c .if3 .taken)))
 
-someip-requires : tie.Need-someip-requires
-someip-requires c κs = search needs
-
 someip-matches-requires : tie.Need-someip-matches-requires
-someip-matches-requires c κs = search needs
+someip-matches-requires c κs = c .before .before .before .before .before .before .before .before .before .pre .someip
 
 returns-4 : tie.Need-returns-4
 unfolding layerTests
 returns-4 c =
-    let d = c .before .before .before in
+    let d = c .before .before in
     let b = d .before .before .before in
     let a = b .before .before in
     count-goes (link-told (a .before)) (a .if1 .left)
@@ -88,7 +82,7 @@ returns-4 c =
 returns-5 : tie.Need-returns-5
 unfolding layerTests
 returns-5 c =
-    let d = c .before .before .before in
+    let d = c .before .before in
     let b = d .before .before .before in
     let a = b .before .before in
     count-goes (link-told (a .before)) (a .if1 .left)
@@ -107,7 +101,6 @@ layers-matched-spec =
     transport-requires
     transport-matches-requires
     returns-3
-    someip-requires
     someip-matches-requires
     returns-4
     returns-5)

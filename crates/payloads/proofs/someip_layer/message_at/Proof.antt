@@ -1,4 +1,4 @@
--- `layers::someip_layer::message_at` meets its contract: field by field.
+-- `payloads::someip_layer::message_at` meets its contract: field by field.
 use Rattle.payloads.specs.Someip.{messageAt}
 use borrow.Author.Needs.{needs}
 use Rattle.payloads.proofs.someip_layer.message_at.Statement.{statement}
@@ -31,6 +31,12 @@ add-t12 c = search needs
 shared-slice-read-t14 : tie.Need-shared-slice-read-t14
 shared-slice-read-t14 c = search needs
 
+length-at-requires : tie.Need-length-at-requires
+length-at-requires c κs = search needs
+
+add-t16 : tie.Need-add-t16
+add-t16 c = search needs
+
 returns : tie.Need-returns
 unfolding messageAt
 returns c = cc
@@ -48,4 +54,6 @@ message-at-spec =
     shared-slice-read-t11
     add-t12
     shared-slice-read-t14
+    length-at-requires
+    add-t16
     returns)
