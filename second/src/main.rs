@@ -91,9 +91,8 @@ fn pace(scene: &pace::Scene, times: u32, step: u32) -> io::Result<ExitCode> {
 
 fn usage() -> ExitCode {
     eprintln!("second run < stream > lines\nsecond recording < capture > stream\nsecond gen SEED N > stream");
-    eprintln!(
-        "second pace SCENE TIMES STEP > stream, SCENE one of worked, last, none, held, six, chain, message, bundle,"
-    );
+    eprintln!("second pace SCENE TIMES STEP > stream, SCENE one of worked, last, none, held, six, chain, message,");
+    eprintln!("  bundle, codes, dearest,");
     eprintln!(
         "  grow RULES HELD LENGTH, or check NAME, NAME one of worked, ports, tracked, empty, full, ipv6, nothing"
     );

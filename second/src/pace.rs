@@ -50,6 +50,8 @@ pub fn scene(words: &[&str]) -> Option<Scene> {
         ["chain"] => Some(six(LONGEST_CHAIN)),
         ["message"] => Some(messages(1)),
         ["bundle"] => Some(messages(MOST_MESSAGES)),
+        ["codes"] => Some(codes()),
+        ["dearest"] => Some(dearest()),
         ["check", name] => checked(name),
         ["grow", rules, held, length] => grow(rules.parse().ok()?, held.parse().ok()?, length.parse().ok()?),
         _ => None,
@@ -155,20 +157,40 @@ fn six(headers: usize) -> Scene {
     Scene::Judged { table, records, frames: vec![draft.bytes(&mut Random::new(0))] }
 }
 
-/// One rule that asks for all five settings of SOME/IP, and a datagram of so many messages without payload that all agree.
+/// One rule that asks for all five settings of SOME/IP, and a datagram of so many messages that all agree.
 fn messages(count: usize) -> Scene {
-    let table = table(1, Action::Block, message_rule);
-    let rule = &table.rules[0];
-    let message = Message {
+    bundled(1, message_rule, vec![message(); count])
+}
+
+/// Rules that differ in the return code alone, and one message with that of the last.
+fn codes() -> Scene {
+    bundled(RULES, |place| Rule { code: (RULES - 1 - place) as u8, ..message_rule(place) }, vec![message()])
+}
+
+/// The dearest frame: as many messages as can be, all but the last of which agree with every rule, and the last with none.
+fn dearest() -> Scene {
+    let mut messages = vec![message(); MOST_MESSAGES];
+    messages[MOST_MESSAGES - 1].code ^= 1;
+    bundled(RULES, message_rule, messages)
+}
+
+fn bundled(rules: usize, rule: fn(usize) -> Rule, messages: Vec<Message>) -> Scene {
+    let draft = Draft { messages, ..draft(Kind::Udp, SOMEIP_PORT, SOMEIP_PORT, 0) };
+    let table = table(rules, Action::Block, rule);
+    Scene::Judged { table, records: Records::empty(START), frames: vec![draft.bytes(&mut Random::new(0))] }
+}
+
+/// A message without payload that agrees with `message_rule`.
+fn message() -> Message {
+    let rule = message_rule(0);
+    Message {
         service: rule.service,
         method: rule.method,
         version: rule.version,
         message: rule.message,
         code: rule.code,
         payload: 0,
-    };
-    let draft = Draft { messages: vec![message; count], ..draft(Kind::Udp, SOMEIP_PORT, SOMEIP_PORT, 0) };
-    Scene::Judged { table, records: Records::empty(START), frames: vec![draft.bytes(&mut Random::new(0))] }
+    }
 }
 
 /// So many tracked rules, so many places of each held, and a frame of that length that no rule matches and the default allows.
@@ -331,6 +353,7 @@ mod tests {
     use crate::answer::{Refusal, Verdict};
     use crate::judge::judge;
     use crate::layers::{self, Ip};
+    use crate::matching::message_agrees;
 
     #[test]
     fn a_checked_table_lacks_nothing_but_a_vehicle_state() {
@@ -353,6 +376,20 @@ mod tests {
             let answer = judge(&table, &mut records, &frames[0], START, &mut [0; 256]).expect("judged");
             assert_eq!((answer.verdict, answer.rule), (Verdict::Passed, 1), "{name}");
         }
+    }
+
+    #[test]
+    fn the_dearest_frame_is_blocked_by_its_last_message_alone() {
+        let Some(Scene::Judged { table, mut records, frames }) = scene(&["dearest"]) else { panic!("no scene") };
+        let someip = layers::read(&frames[0]).expect("layers").someip.expect("SOME/IP");
+        let last = |rule| someip.messages().position(|message| !message_agrees(rule, &message));
+        assert!(table.rules.iter().all(|rule| last(rule) == Some(91)));
+        let answer = judge(&table, &mut records, &frames[0], START, &mut [0; 256]).expect("judged");
+        assert_eq!(answer.verdict, Verdict::BlockedByDefault);
+
+        let Some(Scene::Judged { table, mut records, frames }) = scene(&["codes"]) else { panic!("no scene") };
+        let answer = judge(&table, &mut records, &frames[0], START, &mut [0; 256]).expect("judged");
+        assert_eq!((answer.verdict, answer.rule), (Verdict::Passed, table.rules[RULES - 1].id));
     }
 
     #[test]

@@ -32,7 +32,6 @@ use Rattle.table.specs.declared.TransportSettings.{TransportSettings}
 use Rattle.table.specs.declared.SomeipSettings.{SomeipSettings}
 use Rattle.table.specs.Settings.{
   of8,
-  of16,
   ofKind,
   ofRange,
   ofPrefix,

@@ -1,9 +1,9 @@
 -- The statement of specs/Meaning, proved.
 -- Assumes nothing.
-use Prim.Native.Nat.{ℕ, zero, suc, _+_, _-_, _≤_, _<_}
+use Prim.Native.Nat.{ℕ, zero, suc, _+_, _-_, _≤_}
 use mathlib.Core.Path.{_≡_, refl, sym, ap, subst, _∙_}
 use mathlib.Core.List.{List, [], _∷_}
-use mathlib.Core.Bool.{Bool, true, false, false≢true}
+use mathlib.Core.Bool.{true, false≢true}
 use native.Mathlib.Omega.{arith}
 use borrow.Author.Tests.{le-leb}
 use Rattle.numbers.proofs.Lists.{and-true-true}
@@ -12,7 +12,7 @@ use Rattle.payloads.specs.Someip.{leastLength, lengthField, sizeAt, mess
 use Rattle.payloads.specs.Meaning.{StandIn, CutExactly}
 use Rattle.payloads.proofs.Cutting.{here-fits, cut-nothing, cut-goes, cut-here, cut-some, nothing-first}
 
--- a message and a cut whose messages are these
+-- the parts of a list that has a first
 abbrev firstOf : Message → List Message → Message
 firstOf d [] = d
 firstOf d (m ∷ ms) = m
@@ -26,6 +26,7 @@ before-parts m n Fails ms e = absurd (false≢true (ap doesCut e))
 before-parts m n (Into l) ms e =
     (sym (ap (λ (c : Cut). firstOf n (messagesIn c)) e), ap (λ (c : Cut). Into (othersOf (messagesIn c))) e)
 
+-- what was cut off stands in the bytes
 stand : (s : List ℕ) (at len : ℕ) (ms : List Message) → cut s at len ≡ Into ms → StandIn s at len ms
 unfolding messageAt
 stand s at zero [] e = refl
@@ -38,6 +39,7 @@ stand s at (suc l) (m ∷ ms) e =
     subst (λ (x : Message). (x ≡ messageAt s at) × (leastLength ≤ lengthField s at) × (x .size ≤ suc l) × StandIn s (at + x .size) (suc l - x .size) ms) (sym (q .0))
     (refl, f .0, f .1, stand s (at + sizeAt s at) (suc l - sizeAt s at) ms (q .1))
 
+-- and what stands in them is cut off
 stands : (s : List ℕ) (at len : ℕ) (ms : List Message) → StandIn s at len ms → cut s at len ≡ Into ms
 unfolding messageAt messageHere
 stands s at len [] e = rw e (cut-nothing s at)

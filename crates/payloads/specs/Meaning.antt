@@ -5,7 +5,7 @@ use mathlib.Core.Logic.{_↔_}
 use mathlib.Core.Path.{_≡_}
 use mathlib.Core.List.{List, [], _∷_}
 use Rattle.payloads.specs.declared.Message.{Message}
-use Rattle.payloads.specs.Someip.{leastLength, lengthField, messageAt, Cut, Into, cut}
+use Rattle.payloads.specs.Someip.{leastLength, lengthField, messageAt, Into, cut}
 
 -- these messages, each whole and with a Length of at least 8, stand one behind the other in the len bytes at `at`, and nothing is left over
 abbrev pub StandIn : List ℕ → ℕ → ℕ → List Message → Type 0

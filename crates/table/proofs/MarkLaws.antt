@@ -6,7 +6,7 @@ use mathlib.Core.List.{List, [], _∷_}
 use mathlib.Core.Bool.{Bool, true, false, cond, not, _&&_}
 use native.Mathlib.Numerals.{add-one}
 use native.Mathlib.Omega.{arith}
-use borrow.Author.Tests.{eq-eqb, ne-eqb, eqb-true, eqb-false}
+use borrow.Author.Tests.{eq-eqb, ne-eqb}
 use lib.Dec.{eqb}
 use lib.Pow.{shr-shr, mod-pow-add}
 use Rattle.numbers.specs.Lists.{every}
@@ -15,7 +15,6 @@ use Rattle.table.specs.Marks.{ipv4Unset, ipv6Unset, someipUnset}
 use Rattle.table.specs.Settings.{of8, of16, ofPrefix, ofPrefix6, isUnset}
 use Rattle.table.specs.Table.{marked}
 use Rattle.table.specs.Words.{ipWord, someipWord, word, isSet, setting8In, setting16In, prefixIn, prefix6In, ipv4In, ipv6In, someipIn}
-use Rattle.table.specs.declared.Setting8.{Setting8}
 use Rattle.table.specs.declared.Setting8.the-variants as set8
 use Rattle.table.specs.declared.Setting16.the-variants as set16
 use Rattle.table.specs.declared.Prefix.{Prefix}

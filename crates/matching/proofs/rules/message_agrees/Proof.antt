@@ -2,7 +2,6 @@
 -- Assumes nothing.
 use mathlib.Core.Path.{refl}
 use Rattle.numbers.proofs.Chains.{both, ends}
-use native.Mathlib.Omega.{arith}
 use borrow.Author.Needs.{needs}
 use Rattle.matching.proofs.rules.message_agrees.Statement.{statement}
 use Rattle.matching.proofs.rules.message_agrees.Tie as tie
