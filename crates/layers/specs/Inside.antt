@@ -1,4 +1,4 @@
--- What a reader of the layers may count on: every offset and length of a layer that is present lies within the frame.
+-- What a reader of the layers may count on: every offset and length of a layer that is present lies within the frame, and a bundle cuts.
 -- Assumes nothing.
 use Prim.Native.Nat.{ℕ, _≤_}
 use mathlib.Core.List.{List}

@@ -122,7 +122,7 @@ messageAgrees r m =
     ∷ agrees eqb (of8 (r .code)) (m .code)
     ∷ [])
 
--- 3/12: "SOME/IP settings agree exactly when they agree for every message", and with no message where the layer is absent
+-- 3/12: "SOME/IP settings agree exactly when they agree for every message"; an absent layer has no message, and there they do not agree
 abbrev pub messagesAgree : SomeipSettings → List Message → Bool
 messagesAgree r [] = false
 messagesAgree r (m ∷ ms) = everyOf (messageAgrees r) (m ∷ ms)

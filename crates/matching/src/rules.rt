@@ -6,7 +6,19 @@ ghost use Rattle.payloads.specs.Someip.{messagesOf};
 ghost use Rattle.payloads.specs.Inside.{BundleInside, SomeipInside};
 ghost use Rattle.layers.specs.Inside.{Inside};
 ghost use Rattle.layers.specs.Seen.{seen};
-ghost use Rattle.matching.specs.Matching.{tagTests, linkMatches, ipv4Tests, ipv6Tests, ipMatches, portsAgree, transportMatches, messageAgrees, messagesAgree, someipMatches, layerTests};
+ghost use Rattle.matching.specs.Matching.{
+  tagTests,
+  linkMatches,
+  ipv4Tests,
+  ipv6Tests,
+  ipMatches,
+  portsAgree,
+  transportMatches,
+  messageAgrees,
+  messagesAgree,
+  someipMatches,
+  layerTests,
+};
 ghost use Rattle.table.specs.Words.{ipv4In, ipv6In, someipIn, ruleIn};
 use crate::agrees::*;
 use layers::Layers;
@@ -140,12 +152,22 @@ fn message_agrees(r: SomeipSettings, m: Message) -> bool
     let version = r.version;
     let kind = r.kind;
     let code = r.code;
-    agrees16(service, m.service)
-        & (agrees16(method, m.method)
-            & (agrees8(version, m.version) & (agrees8(kind, m.kind) & agrees8(code, m.code))))
+    if !agrees16(service, m.service) {
+        return false;
+    }
+    if !agrees16(method, m.method) {
+        return false;
+    }
+    if !agrees8(version, m.version) {
+        return false;
+    }
+    if !agrees8(kind, m.kind) {
+        return false;
+    }
+    agrees8(code, m.code)
 }
 
-// Every message, read one behind the other as the rule asks for it.
+// Every message, one behind the other, up to the first that does not agree.
 fn messages_agree(r: SomeipSettings, s: &[u8], b: Bundle) -> bool
     requires { ⌜ BundleInside (now s) b ⌝ }
     ensures { λ g. ⌜ g ≡ messagesAgree r (messagesOf (now (s .entry)) (Present b)) ⌝ }

@@ -6,22 +6,23 @@ use mathlib.Core.List.{List, [], _∷_}
 use mathlib.Core.Bool.{Bool, true, false, cond, false≢true}
 use native.Mathlib.Nat.{not-suc-le-zero}
 use native.Mathlib.Omega.{arith}
-use lib.Dec.{leb, eqb}
+use lib.Dec.{eqb}
 use lib.ListN.{length}
 use borrow.Author.Tests.{leb-true, ne-eqb}
-use Rattle.numbers.proofs.Lists.{and-both}
+use Rattle.numbers.proofs.Lists.{every-at}
 use Rattle.payloads.specs.declared.Message.{Message}
 use Rattle.payloads.specs.Someip.{
   someipBytes,
   leastLength,
   lengthField,
   sizeAt,
+  messageTests,
   messageHere,
   messageAt,
   Cut,
   Fails,
   Into,
-  before,
+  withFirst,
   cutBy,
   cut,
   doesCut,
@@ -31,10 +32,10 @@ use Rattle.payloads.specs.Inside.{CutInside}
 
 -- a whole message has its Length, and fits
 pub here-fits : (s : List ℕ) (at len : ℕ) → messageHere s at len ≡ true → (leastLength ≤ lengthField s at) × (sizeAt s at ≤ len)
-unfolding messageHere
+unfolding messageHere messageTests
 here-fits s at len e =
-    let q = and-both (leb leastLength (lengthField s at)) (leb (sizeAt s at) len) e in
-    (leb-true _ _ (q .0), leb-true _ _ (q .1))
+    let ts = messageTests s at len in
+    (leb-true _ _ (every-at ts 1 e), leb-true _ _ (every-at ts 0 e))
 
 -- ---- len messages are never too few
 
@@ -46,7 +47,7 @@ cut-enough zero (suc k) s at (suc l) h g = absurd (not-suc-le-zero h)
 cut-enough (suc n) zero s at zero h g = refl
 cut-enough (suc n) zero s at (suc l) h g = absurd (not-suc-le-zero g)
 cut-enough (suc n) (suc k) s at len h g =
-    ap (λ (c : Cut). cond (eqb len 0) (Into []) (cond (messageHere s at len) (before (messageAt s at) c) Fails))
+    ap (λ (c : Cut). cond (eqb len 0) (Into []) (cond (messageHere s at len) (withFirst (messageAt s at) c) Fails))
     (cut-enough n k s (at + sizeAt s at) (len - sizeAt s at) (omega arith) (omega arith))
 
 -- ---- the first message, and what is behind it
@@ -61,12 +62,12 @@ cut-nothing s at = refl
 
 pub cut-goes :
     (s : List ℕ) (at len : ℕ) → messageHere s at len ≡ true
-    → cut s at len ≡ before (messageAt s at) (behind s at len)
+    → cut s at len ≡ withFirst (messageAt s at) (behind s at len)
 unfolding cutBy
 cut-goes s at zero e = absurd (omega (arith, here-fits s at 0 e .1))
 cut-goes s at (suc l) e =
     rw (ne-eqb (suc l) 0 (λ z. omega arith), e)
-    (ap (before (messageAt s at)) (cut-enough l (suc l - sizeAt s at) s (at + sizeAt s at) (suc l - sizeAt s at) (omega arith) (omega arith)))
+    (ap (withFirst (messageAt s at)) (cut-enough l (suc l - sizeAt s at) s (at + sizeAt s at) (suc l - sizeAt s at) (omega arith) (omega arith)))
 
 pub cut-stops : (s : List ℕ) (at len : ℕ) → 0 < len → messageHere s at len ≡ false → cut s at len ≡ Fails
 unfolding cutBy
@@ -75,17 +76,17 @@ cut-stops s at (suc l) h e = rw (ne-eqb (suc l) 0 (λ z. omega arith), e) refl
 
 -- ---- what was cut
 
-does-before : (m : Message) (c : Cut) → doesCut (before m c) ≡ doesCut c
-does-before m Fails = refl
-does-before m (Into ms) = refl
+does-first : (m : Message) (c : Cut) → doesCut (withFirst m c) ≡ doesCut c
+does-first m Fails = refl
+does-first m (Into ms) = refl
 
 -- bytes with a whole message first cut exactly when those behind it do
 pub cut-on : (s : List ℕ) (at len : ℕ) → messageHere s at len ≡ true → doesCut (cut s at len) ≡ doesCut (behind s at len)
-cut-on s at len e = ap doesCut (cut-goes s at len e) ∙ does-before (messageAt s at) (behind s at len)
+cut-on s at len e = ap doesCut (cut-goes s at len e) ∙ does-first (messageAt s at) (behind s at len)
 
-in-before : (m : Message) (c : Cut) → doesCut c ≡ true → messagesIn (before m c) ≡ m ∷ messagesIn c
-in-before m Fails e = absurd (false≢true e)
-in-before m (Into ms) e = refl
+in-first : (m : Message) (c : Cut) → doesCut c ≡ true → messagesIn (withFirst m c) ≡ m ∷ messagesIn c
+in-first m Fails e = absurd (false≢true e)
+in-first m (Into ms) e = refl
 
 -- bytes that cut have a whole message first
 pub cut-here : (s : List ℕ) (at len : ℕ) → 0 < len → doesCut (cut s at len) ≡ true → messageHere s at len ≡ true
@@ -101,15 +102,15 @@ someOf Fails = true
 someOf (Into []) = false
 someOf (Into (m ∷ ms)) = true
 
-some-before : (m : Message) (c : Cut) → someOf (before m c) ≡ true
-some-before m Fails = refl
-some-before m (Into ms) = refl
+some-first : (m : Message) (c : Cut) → someOf (withFirst m c) ≡ true
+some-first m Fails = refl
+some-first m (Into ms) = refl
 
 pub cut-some : (s : List ℕ) (at len : ℕ) → 0 < len → cut s at len ≡ Into [] → ⊥
 cut-some s at len h e = go (messageHere s at len) refl
   where
     go : (b : Bool) → messageHere s at len ≡ b → ⊥
-    go true q = false≢true (ap someOf (sym e ∙ cut-goes s at len q) ∙ some-before (messageAt s at) (behind s at len))
+    go true q = false≢true (ap someOf (sym e ∙ cut-goes s at len q) ∙ some-first (messageAt s at) (behind s at len))
     go false q = false≢true (ap someOf (sym e ∙ cut-stops s at len h q))
 
 -- where there are no bytes there is no first message
@@ -139,7 +140,7 @@ walked-here s at len w h =
       some = omega arith;
       fits = z;
       rest = record { bytes = omega arith; cuts = d };
-      is = ap messagesIn (cut-goes s at len e) ∙ in-before (messageAt s at) (behind s at len) d;
+      is = ap messagesIn (cut-goes s at len e) ∙ in-first (messageAt s at) (behind s at len) d;
     }
 
 pub walked : (s : List ℕ) (at len : ℕ) (m : Message) → CutInside s at len → 0 < len → m ≡ messageAt s at → Walked s at len m

@@ -2,9 +2,10 @@
 -- Assumes nothing.
 use Prim.Native.Nat.{ℕ, zero, suc, _+_, _-_}
 use mathlib.Core.List.{List, [], _∷_}
-use mathlib.Core.Bool.{Bool, true, false, cond, _&&_}
+use mathlib.Core.Bool.{Bool, true, false, cond}
 use lib.Dec.{leb, eqb}
 use Rattle.numbers.specs.Bytes.{byte, be16, be32}
+use Rattle.numbers.specs.Lists.{every}
 use Rattle.payloads.specs.declared.Transport.{Transport}
 use Rattle.payloads.specs.declared.Transport.the-variants as transport
 use Rattle.payloads.specs.declared.Message.{Message}
@@ -27,7 +28,7 @@ kindAt = 14
 abbrev pub codeAt : ℕ
 codeAt = 15
 
--- the header's bytes; "Length at least 8", which does not count the header's first 8 bytes: they end with it
+-- the header's bytes; "Length at least 8"; a Length counts what follows it, so not the header's first 8 bytes
 abbrev pub someipBytes : ℕ
 someipBytes = 16
 
@@ -44,9 +45,12 @@ lengthField s at = be32 s (at + lengthAt)
 abbrev pub sizeAt : List ℕ → ℕ → ℕ
 sizeAt s at = uncounted + lengthField s at
 
--- a "whole" message stands first in these bytes, "with Length at least 8"; so its header's 16 bytes are among them
+-- "whole", and "with Length at least 8": such a message stands first in these bytes, and so its header's 16 bytes are among them
+unfoldable pub messageTests : List ℕ → ℕ → ℕ → List Bool
+messageTests s at len = leb (sizeAt s at) len ∷ leb leastLength (lengthField s at) ∷ []
+
 unfoldable pub messageHere : List ℕ → ℕ → ℕ → Bool
-messageHere s at len = leb leastLength (lengthField s at) && leb (sizeAt s at) len
+messageHere s at len = every (messageTests s at len)
 
 -- the message at `at`: service and method id, protocol version, message type, return code; where its header is, and its bytes
 unfoldable pub messageAt : List ℕ → ℕ → Message
@@ -69,17 +73,18 @@ pub data Cut : Type 0 where
   Into : List Message → Cut
 
 -- a message, and what the bytes behind it cut into
-abbrev pub before : Message → Cut → Cut
-before m Fails = Fails
-before m (Into ms) = Into (m ∷ ms)
+abbrev pub withFirst : Message → Cut → Cut
+withFirst m Fails = Fails
+withFirst m (Into ms) = Into (m ∷ ms)
 
--- "with nothing left over, into .. whole messages": no bytes are no messages; else a whole message stands first, and what is behind it cuts into the others. At most n are cut off
+-- "with nothing left over, into .. whole messages": no bytes are no messages; else a whole message stands first,
+-- and what is behind it cuts into the others. At most n are cut off
 unfoldable pub cutBy : ℕ → List ℕ → ℕ → ℕ → Cut
 cutBy zero s at len = cond (eqb len 0) (Into []) Fails
 cutBy (suc n) s at len =
     cond (eqb len 0) (Into [])
     (cond (messageHere s at len)
-    (before (messageAt s at) (cutBy n s (at + sizeAt s at) (len - sizeAt s at)))
+    (withFirst (messageAt s at) (cutBy n s (at + sizeAt s at) (len - sizeAt s at)))
     Fails)
 
 -- a message takes bytes, so len bytes are never more than len messages

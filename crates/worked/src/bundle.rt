@@ -2,8 +2,6 @@
 ghost use Prim.Native.Nat.{_≤_, _<_};
 use crate::page;
 use crate::print::hex;
-use crate::print::left;
-use crate::print::right;
 use crate::print::spaces;
 use crate::print::text;
 use crate::print::wide8;
@@ -28,7 +26,7 @@ const UDP_LENGTH: usize = 38;
 
 const PAYLOAD: usize = 42;
 
-// The bytes of each message; its Length and type, from its start.
+// The bytes of each message; the last byte of its Length, and its type, from its start.
 const SIZE: usize = 16;
 
 const LENGTH: usize = 7;
@@ -115,20 +113,12 @@ fn step(
     let end = PAYLOAD + SIZE * n + over;
     let mut space = [0u8; ROOM];
     let answer = firewall::judge(t, head, counts, places, &bytes[0..end], 0, &mut space);
-    spaces(5);
-    left(what, 30);
-    right(0, 7);
-    text(b"  ");
-    let gap = page::answered(answer, t, &space);
+    let gap = page::beside(what, answer, t, &space);
     shows(answer, &space, gap);
     text(b"\n");
 }
 
-// From a fresh record: rule 10 wants service 0x1000 and type 0x80 of every message.
-pub(crate) fn bundles(t: &TableWords, head: &mut Head, counts: &mut Counts, places: &mut Places) {
-    text(
-        b"\nseveral messages in one datagram, to port 30501, each of service 0x1000 and type 0x80\n",
-    );
+fn whole(t: &TableWords, head: &mut Head, counts: &mut Counts, places: &mut Places) {
     step(b"one", 1, 0, TYPE, 0x80, t, head, counts, places);
     step(b"two", 2, 0, TYPE, 0x80, t, head, counts, places);
     step(
@@ -142,6 +132,9 @@ pub(crate) fn bundles(t: &TableWords, head: &mut Head, counts: &mut Counts, plac
         counts,
         places,
     );
+}
+
+fn not_cut(t: &TableWords, head: &mut Head, counts: &mut Counts, places: &mut Places) {
     step(
         b"two, one byte left over",
         2,
@@ -164,6 +157,9 @@ pub(crate) fn bundles(t: &TableWords, head: &mut Head, counts: &mut Counts, plac
         counts,
         places,
     );
+}
+
+fn most(t: &TableWords, head: &mut Head, counts: &mut Counts, places: &mut Places) {
     step(b"92", 92, 0, TYPE, 0x80, t, head, counts, places);
     step(
         b"92, the last of type 0x81",
@@ -176,4 +172,14 @@ pub(crate) fn bundles(t: &TableWords, head: &mut Head, counts: &mut Counts, plac
         counts,
         places,
     );
+}
+
+// From a fresh record: rule 10 wants service 0x1000 and type 0x80 of every message.
+pub(crate) fn bundles(t: &TableWords, head: &mut Head, counts: &mut Counts, places: &mut Places) {
+    text(
+        b"\nseveral messages in one datagram, to port 30501, each of service 0x1000 and type 0x80\n",
+    );
+    whole(t, head, counts, places);
+    not_cut(t, head, counts, places);
+    most(t, head, counts, places);
 }

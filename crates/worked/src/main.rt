@@ -1,5 +1,4 @@
-// Judges M1 to M11 of the paper's worked set and prints them, a line for each frame; then what a wrong step, a bundle of messages, a segment over IPv6
-// and a wrong table are answered.
+// Judges M1 to M11 of the paper's worked set and prints them, a line for each frame; then wrong steps, bundles of messages, segments over IPv6, wrong tables.
 // Everything goes through the entry points.
 mod bundle;
 mod expected;

@@ -1,9 +1,6 @@
 // IPv6 from the new modem under table T: beside the worked set, for a person who reads them for the first time.
 ghost use Prim.Native.Nat.{_≤_};
 use crate::page;
-use crate::print::left;
-use crate::print::right;
-use crate::print::spaces;
 use crate::print::text;
 use crate::rules;
 use crate::words;
@@ -106,11 +103,7 @@ fn step(
     let end = PAYLOAD + 8 * n + 20;
     let mut space = [0u8; ROOM];
     let answer = firewall::judge(t, head, counts, places, &bytes[0..end], 0, &mut space);
-    spaces(5);
-    left(what, 30);
-    right(0, 7);
-    text(b"  ");
-    let gap = page::answered(answer, t, &space);
+    let gap = page::beside(what, answer, t, &space);
     page::records(t, counts, places, gap);
 }
 

@@ -88,6 +88,15 @@ pub(crate) fn answered(answer: Judged, t: &TableWords, space: &[u8; ROOM]) -> us
     }
 }
 
+// A line beside the worked set: what came at reading 0, and what was answered.
+pub(crate) fn beside(what: &[u8], answer: Judged, t: &TableWords, space: &[u8; ROOM]) -> usize {
+    spaces(5);
+    left(what, 30);
+    right(0, 7);
+    text(b"  ");
+    answered(answer, t, space)
+}
+
 fn judged(a: Answer, space: &[u8; ROOM]) -> usize {
     let v = a.verdict;
     verdict(v.number);

@@ -1,7 +1,6 @@
 // What is answered to a step that is wrong, and to a table that is: beside the worked set, for a person who reads them for the first time.
 use crate::page;
 use crate::print::left;
-use crate::print::right;
 use crate::print::spaces;
 use crate::print::text;
 use crate::words;
@@ -42,11 +41,7 @@ fn step(
     bytes[FLAGS] = flags;
     let mut space = [0u8; ROOM];
     let answer = firewall::judge(t, head, counts, places, &bytes[0..n], 0, &mut space);
-    spaces(5);
-    left(what, 30);
-    right(0, 7);
-    text(b"  ");
-    let gap = page::answered(answer, t, &space);
+    let gap = page::beside(what, answer, t, &space);
     page::records(t, counts, places, gap);
 }
 

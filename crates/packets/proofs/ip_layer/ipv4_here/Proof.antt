@@ -1,4 +1,4 @@
--- `layers::ip_layer::ipv4_here` meets its contract: each early answer by the test that failed, the last by all that held.
+-- `packets::ip_layer::ipv4_here` meets its contract: each early answer by the test that failed, the last by all that held.
 use Rattle.packets.proofs.OnIp.{no-ether, no-rest, no-version, no-words, no-header, no-total, by-sum}
 use native.Mathlib.Omega.{arith}
 use borrow.Author.Needs.{needs}

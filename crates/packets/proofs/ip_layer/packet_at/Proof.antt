@@ -1,4 +1,4 @@
--- `layers::ip_layer::packet_at` meets its contract: field by field.
+-- `packets::ip_layer::packet_at` meets its contract: field by field.
 use mathlib.Core.Path.{_∙_}
 use Rattle.packets.proofs.OnIp.{packet-of}
 use borrow.Author.Needs.{needs}

@@ -1,4 +1,4 @@
--- `layers::link_layer::is_tagged` meets its contract: opened, the definition is the very comparison.
+-- `packets::link_layer::is_tagged` meets its contract: opened, the definition is the very comparison.
 use Rattle.packets.specs.Link.{tagged}
 use borrow.Author.Needs.{needs}
 use Rattle.packets.proofs.link_layer.is_tagged.Statement.{statement}

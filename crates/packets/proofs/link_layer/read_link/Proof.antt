@@ -1,4 +1,4 @@
--- `layers::link_layer::read_link` meets its contract: a law for each branch, tagged and untagged.
+-- `packets::link_layer::read_link` meets its contract: a law for each branch, tagged and untagged.
 use mathlib.Core.Path.{_∙_, sym}
 use Rattle.packets.proofs.OnLink.{link-tagged, link-untagged}
 use native.Mathlib.Omega.{arith}

@@ -1,4 +1,4 @@
--- `layers::link_layer::read_tag` meets its contract: both fields divide the one number that was read.
+-- `packets::link_layer::read_tag` meets its contract: both fields divide the one number that was read.
 use Prim.Native.Nat.{ℕ, _/_, _%_}
 use mathlib.Core.Path.{ap}
 use Rattle.packets.specs.declared.Tag.the-variants.{Tagged}

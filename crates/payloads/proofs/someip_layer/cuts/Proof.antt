@@ -1,10 +1,10 @@
 -- `payloads::someip_layer::cuts` meets its contract: what is still to go cuts exactly when the payload does.
 -- Assumes nothing.
-use Prim.Native.Nat.{_+_, _-_, _≤_}
+use Prim.Native.Nat.{_+_, _≤_}
 use mathlib.Core.Path.{_≡_, refl, sym, ap, _∙_}
 use lib.ListN.{length}
-use Rattle.payloads.specs.Someip.{cut, doesCut}
-use Rattle.payloads.proofs.OnSomeip.{cuts-on, cuts-ends, cuts-nothing}
+use Rattle.payloads.specs.Someip.{uncounted, cut, doesCut}
+use Rattle.payloads.proofs.OnSomeip.{Passed, cuts-on, cuts-ends, cuts-nothing}
 use native.Mathlib.Omega.{arith}
 use Rattle.payloads.proofs.someip_layer.cuts.Statement.{statement}
 use Rattle.payloads.proofs.someip_layer.cuts.Tie as tie
@@ -18,11 +18,10 @@ abbrev μ-loop : tie.MeasureT-loop
 -- a whole message stands at `at`, and what is behind it tells
 turn :
     (c : tie.After-length-at Inv-loop μ-loop)
-    → (16 ≤ 8 + c .length-at .result)
-    × (8 + c .length-at .result ≤ c .before .before .before .before .loop .len)
-    × (doesCut (cut (c .before .before .before .before .before .before .args .s .now) (c .before .before .before .before .loop .at) (c .before .before .before .before .loop .len))
-    ≡ doesCut (cut (c .before .before .before .before .before .before .args .s .now) (c .before .before .before .before .loop .at + (8 + c .length-at .result)) (c .before .before .before .before .loop .len - (8 + c .length-at .result))))
-turn c = cuts-on _ _ _ (c .before .before .message-here .ensures) (c .before .if1 .left) (ap (λ n. 8 + n) (c .length-at .ensures .0))
+    → let q = c .before .before .before .before in
+    Passed (q .before .before .args .s .now) (q .loop .at) (q .loop .len) (uncounted + c .length-at .result)
+turn c =
+    cuts-on _ _ _ (c .before .before .message-here .ensures) (c .before .if1 .left) (ap (λ n. uncounted + n) (c .length-at .ensures .0))
 
 loop-holds : tie.Need-loop-holds Inv-loop μ-loop
 loop-holds c = (c .before .pre, refl)
@@ -38,22 +37,22 @@ returns c =
 length-at-requires : tie.Need-length-at-requires Inv-loop μ-loop
 length-at-requires c κs =
     let t = cuts-on _ _ _ (c .before .message-here .ensures) (c .if1 .left) refl in
-    omega (arith, c .before .before .before .loop .inv .0, t .0, t .1)
+    omega (arith, c .before .before .before .loop .inv .0, t .whole, t .fits)
 
 add-size : tie.Need-add-size Inv-loop μ-loop
 add-size c = omega arith
 
 add-at : tie.Need-add-at Inv-loop μ-loop
-add-at c = omega (arith, turn c .0, turn c .1)
+add-at c = omega (arith, turn c .whole, turn c .fits)
 
 sub-len : tie.Need-sub-len Inv-loop μ-loop
-sub-len c = omega (arith, turn c .0, turn c .1)
+sub-len c = omega (arith, turn c .whole, turn c .fits)
 
 loop-less : tie.Need-loop-less Inv-loop μ-loop
-loop-less c = omega (arith, turn c .0, turn c .1)
+loop-less c = omega (arith, turn c .whole, turn c .fits)
 
 loop-again : tie.Need-loop-again Inv-loop μ-loop
-loop-again c = (omega (arith, turn c .0, turn c .1), c .before .before .before .before .loop .inv .1 ∙ turn c .2)
+loop-again c = (omega (arith, turn c .whole, turn c .fits), c .before .before .before .before .loop .inv .1 ∙ turn c .same)
 
 returns-2 : tie.Need-returns-2 Inv-loop μ-loop
 returns-2 c = sym (c .before .loop .inv .1 ∙ cuts-nothing _ _ _ (omega arith))

@@ -1,4 +1,4 @@
--- `layers::someip_layer::read_someip` meets its contract: by the cases of the transport.
+-- `payloads::someip_layer::read_someip` meets its contract: by the cases of the transport.
 use mathlib.Core.Path.{subst}
 use Rattle.payloads.specs.Someip.{someipOf}
 use Rattle.payloads.specs.Inside.{TransportInside}

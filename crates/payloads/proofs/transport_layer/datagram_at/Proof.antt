@@ -1,4 +1,4 @@
--- `layers::transport_layer::datagram_at` meets its contract: field by field.
+-- `payloads::transport_layer::datagram_at` meets its contract: field by field.
 use Rattle.payloads.specs.Transport.{datagramAt}
 use borrow.Author.Needs.{needs}
 use Rattle.payloads.proofs.transport_layer.datagram_at.Statement.{statement}

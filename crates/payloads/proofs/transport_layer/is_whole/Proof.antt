@@ -1,4 +1,4 @@
--- `layers::transport_layer::is_whole` meets its contract: more-fragments first, then the offset.
+-- `payloads::transport_layer::is_whole` meets its contract: more-fragments first, then the offset.
 use Rattle.payloads.proofs.OnTransport.{more-fragments, by-offset}
 use native.Mathlib.Omega.{arith}
 use borrow.Author.Needs.{needs}

@@ -1,4 +1,4 @@
--- `layers::transport_layer::tcp_here` meets its contract: each early answer by the test that failed, the last by all that held.
+-- `payloads::transport_layer::tcp_here` meets its contract: each early answer by the test that failed, the last by all that held.
 use Rattle.payloads.proofs.OnTransport.{not-tcp, tcp-short, tcp-few, tcp-by-offset}
 use native.Mathlib.Omega.{arith}
 use borrow.Author.Needs.{needs}

@@ -1,4 +1,4 @@
--- `layers::transport_layer::transport_at` meets its contract: TCP, UDP or neither; a header that is present has its room.
+-- `payloads::transport_layer::transport_at` meets its contract: TCP, UDP or neither; a header that is present has its room.
 use mathlib.Core.Path.{_∙_, ap, sym}
 use Rattle.payloads.specs.declared.Transport.the-variants.{Tcp, Udp}
 use Rattle.payloads.proofs.Laws.{tcp-fits, udp-fits}

@@ -1,4 +1,4 @@
--- `layers::transport_layer::transport_in` meets its contract: a whole packet or a fragment.
+-- `payloads::transport_layer::transport_in` meets its contract: a whole packet or a fragment.
 use mathlib.Core.Path.{_∙_, sym}
 use Rattle.payloads.proofs.OnTransport.{whole, fragment}
 use borrow.Author.Needs.{needs}

@@ -1,4 +1,4 @@
--- `layers::transport_layer::udp_here` meets its contract: each early answer by the test that failed, the last by all that held.
+-- `payloads::transport_layer::udp_here` meets its contract: each early answer by the test that failed, the last by all that held.
 use mathlib.Core.Path.{_∙_}
 use Rattle.payloads.proofs.OnTransport.{not-udp, udp-short, udp-by-length}
 use native.Mathlib.Omega.{arith}
