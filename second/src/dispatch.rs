@@ -5,11 +5,10 @@ mod bundle;
 
 pub use bundle::{Agreement, Bundle, AGREEMENTS};
 
-use crate::image::{read_table, TABLE_IMAGE};
 use crate::layers::Kind;
 use crate::random::Random;
-use crate::table::{set, Action, Range, Rule, State, Table};
-use crate::world::{blank, SOMEIPS};
+use crate::table::{set, Action, Rule, State, Table};
+use crate::world::{table_of, to_port, SOMEIPS};
 
 /// The rule at a place is for this port and so many more, so that no rule takes another's frames.
 const FIRST_PORT: u16 = 21_000;
@@ -32,23 +31,16 @@ pub const BLOCKING: u8 = 0;
 pub const ALLOWING: u8 = 1;
 
 pub fn table(random: &mut Random) -> Table {
-    let mut table = read_table(&[0xff; TABLE_IMAGE]);
-    (table.rule_count, table.state_count) = (RULES as u8, 2);
-    for place in 0..RULES {
-        table.rules[place] = Rule { id: 300 + place as u16, ..rule(place, random) };
-    }
+    let states = [Action::Block, Action::Allow].map(|default| State { default, marks: (1 << RULES) - 1 });
+    let mut table = table_of(RULES, 300, &states, |place| rule(place, random));
     let (wanted, unwanted) = (table.rules[WANTED], &mut table.rules[UNWANTED]);
     (unwanted.dports, unwanted.service) = (wanted.dports, wanted.service ^ 1);
-    for (state, default) in [(BLOCKING, Action::Block), (ALLOWING, Action::Allow)] {
-        table.states[usize::from(state)] = State { default, marks: (1 << RULES) - 1 };
-    }
     table
 }
 
 fn rule(place: usize, random: &mut Random) -> Rule {
-    let port = FIRST_PORT + place as u16;
-    let to_port = Rule { kind: Kind::Udp, dports: Range { low: port, high: port }, ..blank(random) };
-    let ports = set::KIND | set::DEST_PORTS;
+    let to_port = to_port(FIRST_PORT + place as u16, random);
+    let ports = to_port.set;
     match place {
         // A bucket that never drains, for one datagram.
         LIMITED => Rule { size: 1, refill: 0, set: ports | set::SOMEIP | set::RATE, ..to_port },

@@ -4,11 +4,10 @@ mod wish;
 
 pub use wish::{chain, Compared, Half, Held, Meeting, Protocol, Wish, HALVES};
 
-use crate::image::{read_table, TABLE_IMAGE};
 use crate::layers::{Kind, DEST_OPTIONS, FRAGMENT, HOP_BY_HOP, PROTOCOL_TCP, PROTOCOL_UDP, ROUTING};
 use crate::random::Random;
-use crate::table::{set, Action, Prefix, Prefix6, Range, Rule, State, Table, LONGEST_IDLE};
-use crate::world::blank;
+use crate::table::{set, Action, Prefix, Prefix6, Rule, State, Table, LONGEST_IDLE};
+use crate::world::{table_of, to_port};
 
 const EXTENSIONS: [u8; 3] = [HOP_BY_HOP, ROUTING, DEST_OPTIONS];
 pub const ICMPV6: u8 = 58;
@@ -40,21 +39,14 @@ pub const IPV4_ALONE: u8 = 1;
 pub const IPV6_ALONE: u8 = 2;
 
 pub fn table(random: &mut Random) -> Table {
-    let mut table = read_table(&[0xff; TABLE_IMAGE]);
-    (table.rule_count, table.state_count) = (RULES as u8, 3);
-    for place in 0..RULES {
-        table.rules[place] = Rule { id: 100 + place as u16, ..rule(place, random) };
-    }
-    for (state, marks) in [(ALL, (1 << RULES) - 1), (IPV4_ALONE, 1 << UDP_IPV4), (IPV6_ALONE, 1 << UDP_IPV6)] {
-        table.states[usize::from(state)] = State { default: Action::Block, marks };
-    }
-    table
+    let marks = [(1 << RULES) - 1, 1 << UDP_IPV4, 1 << UDP_IPV6];
+    let states = marks.map(|marks| State { default: Action::Block, marks });
+    table_of(RULES, 100, &states, |place| rule(place, random))
 }
 
 fn rule(place: usize, random: &mut Random) -> Rule {
-    let port = FIRST_PORT + place as u16;
-    let to_port = Rule { kind: Kind::Udp, dports: Range { low: port, high: port }, ..blank(random) };
-    let ports = set::KIND | set::DEST_PORTS;
+    let to_port = to_port(FIRST_PORT + place as u16, random);
+    let ports = to_port.set;
     match place {
         SEGMENTS => Rule { kind: Kind::Tcp, set: ports, ..to_port },
         SOURCES..DESTINATIONS => {

@@ -53,6 +53,22 @@ fn range(random: &mut Random) -> Range {
     }
 }
 
+/// So many rules, whose ids rise from one on, and these states.
+pub fn table_of(rules: usize, first_id: u16, states: &[State], mut rule: impl FnMut(usize) -> Rule) -> Table {
+    let mut table = read_table(&[0xff; TABLE_IMAGE]);
+    (table.rule_count, table.state_count) = (rules as u8, states.len() as u8);
+    for place in 0..rules {
+        table.rules[place] = Rule { id: first_id + place as u16, ..rule(place) };
+    }
+    table.states[..states.len()].copy_from_slice(states);
+    table
+}
+
+/// A rule for UDP to one port with every other value drawn, and what it has set.
+pub fn to_port(port: u16, random: &mut Random) -> Rule {
+    Rule { kind: Kind::Udp, dports: Range { low: port, high: port }, set: set::KIND | set::DEST_PORTS, ..blank(random) }
+}
+
 /// A rule with every value drawn and nothing set.
 pub fn blank(random: &mut Random) -> Rule {
     Rule {
