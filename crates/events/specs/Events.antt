@@ -133,15 +133,6 @@ longestEvent = 44
 abbrev pub eventRoom : ℕ
 eventRoom = 256
 
--- "a judged call writes only the event's length of bytes"
-abbrev pub written : List ℕ → List ℕ → List ℕ
-written event space = event ++ drop (length event) space
-
--- an event at the start of a space: how many bytes were written, and the space after it
-pub record Wrote (event space after : List ℕ) (n : ℕ) : Type 0 where
-  pub count : n ≡ length event
-  pub left : after ≡ written event space
-
 -- "its next layer names the event (link, IPv4, TCP or UDP by that rule's kind, SOME/IP)"; 2/12: "the IPv6 event of 001 when the rule's settings are IPv6"
 unfoldable pub mismatchOf : Rule → ℕ → Event
 mismatchOf r layer =

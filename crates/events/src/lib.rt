@@ -4,11 +4,12 @@ ghost use mathlib.Core.List.{_++_};
 ghost use Prim.Native.Nat.{_/_, _%_, _≤_};
 ghost use lib.ListN.{length, drop};
 ghost use Rattle.numbers.specs.Bytes.{byte};
+ghost use Rattle.numbers.specs.Lists.{Wrote};
 ghost use Rattle.layers.specs.Inside.{Inside};
 ghost use Rattle.layers.specs.Layers.{least};
 ghost use Rattle.layers.specs.Seen.{seen};
 ghost use Rattle.table.specs.Words.{ruleIn};
-ghost use Rattle.events.specs.Events.{array, numberOf, eventBytes, longestEvent, Wrote, mismatchOf};
+ghost use Rattle.events.specs.Events.{array, numberOf, eventBytes, longestEvent, mismatchOf};
 ghost use Rattle.events.specs.Arrays.{
   lengthOf,
   heading,

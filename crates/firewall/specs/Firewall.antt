@@ -5,6 +5,7 @@ use mathlib.Core.List.{List}
 use mathlib.Core.Bool.{cond}
 use lib.ListN.{length}
 use lib.Dec.{ltb}
+use Rattle.numbers.specs.Lists.{written}
 use Rattle.layers.specs.Layers.{refusalNumber, shownOf}
 use Rattle.layers.specs.declared.FrameRefusal.{FrameRefusal}
 use Rattle.layers.specs.declared.Shown.{Shown}
@@ -17,7 +18,7 @@ use Rattle.faults.specs.Faults.{faultOf}
 use Rattle.records.specs.Records.{Lent, recordsOf, wordsOf}
 use Rattle.records.specs.Good.{recordsGood}
 use Rattle.records.specs.Step.{freshOf, switchedTo}
-use Rattle.events.specs.Events.{written, eventRoom}
+use Rattle.events.specs.Events.{eventRoom}
 use Rattle.steps.specs.Steps.{Arrival, seenOf, Outcome, outcomeOf}
 use Rattle.firewall.specs.declared.refusal.Refusal.{Refusal}
 use Rattle.firewall.specs.declared.Checked.{Checked}
@@ -116,7 +117,8 @@ switchOf t state w =
     (cond (ltb state (t .statecount)) (leaves done (wordsOf (switchedTo state (recordsOf w)))) (leaves noSuchState w))
     (leaves badRecord w))
 
--- a judged call: the outcome's verdict, rule id and event length, its records, and its event at the start of the space
+-- a judged call: the outcome's verdict, rule id and event length, its records, and its event at the start of the space:
+-- "a judged call writes only the event's length of bytes"
 abbrev pub judgedAs : Outcome → List ℕ → After
 judgedAs o space =
     says (answered (o .verdict) (o .rule) (length (o .event))) (wordsOf (o .records)) (written (o .event) space)

@@ -1,12 +1,13 @@
--- Laws of rows in general: read element by element, made anew, what holds of every element.
+-- Laws of rows in general: read element by element, made anew, what holds of every element; parts of a row; a machine over two rows.
 -- Assumes nothing.
-use Prim.Native.Nat.{ℕ, zero, suc, _<_}
+use Prim.Native.Nat.{ℕ, zero, suc, _-_, _<_, _≤_}
 use native.Mathlib.Omega.{arith}
 use mathlib.Core.Path.{_≡_, refl, sym, ap, ap₂}
 use mathlib.Core.Bool.{Bool, true}
-use mathlib.Core.List.{List, [], _∷_, map}
-use lib.ListN.{length, getD, set}
-use Rattle.numbers.specs.Lists.{everyOf, All}
+use mathlib.Core.List.{List, [], _∷_, _++_, map}
+use lib.ListN.{length, getD, set, take, drop, length-drop, drop-of-length-le}
+use lib.Seq.{take-all}
+use Rattle.numbers.specs.Lists.{everyOf, ends, said, All}
 use Rattle.numbers.proofs.Lists.{and-both}
 
 pub nil-of : {A : Type 0} (l : List A) → length l ≡ 0 → l ≡ []
@@ -72,3 +73,23 @@ pub All-set : {A : Type 0} (P : A → Type 0) (l : List A) (i : ℕ) (y : A) →
 All-set P [] i y a b = tt
 All-set P (x ∷ l) zero y a b = (b, a .1)
 All-set P (x ∷ l) (suc i) y a b = (a .0, All-set P l i y (a .1) b)
+
+-- ---- all that there is of a row from a place on, which is what a part that reaches to its end lends
+
+module _ {A : Type 0} (l : List A) (at : ℕ) where
+  pub part-all : take (length l - at) (drop at l) ≡ drop at l
+  part-all = take-all (length l - at) (drop at l) (rw (length-drop at l) (omega arith))
+
+  pub part-none : drop (length l - at) (drop at l) ≡ []
+  part-none = drop-of-length-le (drop at l) {i = length l - at} (rw (length-drop at l) (omega arith))
+
+-- ---- a machine over two rows, one behind the other
+
+module _ {S X Y : Type 0} (go : S → X → S) (say : S → X → Y) where
+  pub ends-append : (s : S) (k l : List X) → ends go s (k ++ l) ≡ ends go (ends go s k) l
+  ends-append s [] l = refl
+  ends-append s (x ∷ k) l = ends-append (go s x) k l
+
+  pub said-append : (s : S) (k l : List X) → said go say s (k ++ l) ≡ said go say s k ++ said go say (ends go s k) l
+  said-append s [] l = refl
+  said-append s (x ∷ k) l = ap (λ m. say s x ∷ m) (said-append (go s x) k l)

@@ -8,7 +8,7 @@ use native.Mathlib.Omega.{arith}
 use borrow.Author.Tests.{lt-ltb, le-ltb, ltb-true, ltb-false, eq-eqb, ne-eqb, eqb-false}
 use lib.ListN.{length, getD}
 use lib.Dec.{ltb, eqb}
-use Rattle.numbers.specs.Lists.{first}
+use Rattle.numbers.specs.Lists.{first, written, Wrote}
 use Rattle.numbers.proofs.Lists.{cond-both, first-before}
 use Rattle.packets.specs.declared.Ip.{Ip}
 use Rattle.packets.specs.declared.Ip.the-variants as ip
@@ -45,7 +45,7 @@ use Rattle.places.proofs.PlaceLaws.{quad-ipv4, quad-ipv6}
 use Rattle.records.specs.Good.{recordsGood}
 use Rattle.records.proofs.GoodLaws.{Decider, good-state, ticked-good, acted-good, ticked-shaped, acted-shaped}
 use Rattle.records.proofs.WordLaws.{words-back}
-use Rattle.events.specs.Events.{eventBytes, mismatchOf, written, Wrote}
+use Rattle.events.specs.Events.{eventBytes, mismatchOf}
 use Rattle.events.specs.declared.Event.{Event}
 use Rattle.events.specs.declared.Event.the-variants as event
 use Rattle.steps.specs.declared.Answer.{Answer}

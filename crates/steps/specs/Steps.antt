@@ -6,6 +6,7 @@ use mathlib.Core.List.{List, []}
 use mathlib.Core.Bool.{Bool, true, cond, _||_}
 use lib.ListN.{length}
 use lib.Dec.{ltb, eqb}
+use Rattle.numbers.specs.Lists.{written}
 use Rattle.packets.specs.declared.Ip.{Ip}
 use Rattle.packets.specs.declared.Ip.the-variants as ip
 use Rattle.payloads.specs.declared.Transport.{Transport}
@@ -29,7 +30,7 @@ use Rattle.flags.specs.Flags.{kindOf}
 use Rattle.verdicts.specs.Rule.{overRate, noPlaceFree, blockedByDefault, wrongFlags, noConversation, notInState}
 use Rattle.records.specs.Step.{ticked, reaction, acted}
 use Rattle.records.specs.Good.{recordsGood}
-use Rattle.events.specs.Events.{eventBytes, mismatchOf, written, eventRoom}
+use Rattle.events.specs.Events.{eventBytes, mismatchOf, eventRoom}
 use Rattle.events.specs.declared.Event.the-variants as event
 use Rattle.steps.specs.declared.Answer.{Answer}
 use Rattle.steps.specs.declared.Report.{Report}

@@ -2,6 +2,7 @@
 ghost use mathlib.Core.Path.{_≡_};
 ghost use Prim.Native.Nat.{_≤_};
 ghost use lib.ListN.{length};
+ghost use Rattle.numbers.specs.Lists.{Wrote};
 ghost use Rattle.layers.specs.Inside.{Inside};
 ghost use Rattle.layers.specs.Layers.{least};
 ghost use Rattle.layers.specs.Seen.{seen};
@@ -9,7 +10,7 @@ ghost use Rattle.table.specs.Table.{mostRules};
 ghost use Rattle.table.specs.Words.{tableIn};
 ghost use Rattle.deciding.specs.Best.{bestOf};
 ghost use Rattle.records.specs.Records.{recordsOf, lent, before, after};
-ghost use Rattle.events.specs.Events.{eventRoom, Wrote};
+ghost use Rattle.events.specs.Events.{eventRoom};
 ghost use Rattle.steps.specs.Steps.{noTurn, quadOf, turnIn, idAt, wrongStep, eventFor, bestEvent, eventOf, outcomeOf, Ready, stepped, steppedAs};
 use conversations::Turn;
 use deciding::Best;

@@ -8,7 +8,7 @@ use mathlib.Core.List.{List}
 use lib.ListN.{length}
 use lib.Dec.{ltb}
 use borrow.Author.Tests.{ltb-true, ltb-false, le-ltb}
-use Rattle.numbers.specs.Lists.{first}
+use Rattle.numbers.specs.Lists.{first, written}
 use Rattle.numbers.proofs.Lists.{cond-both}
 use Rattle.layers.specs.Layers.{refusalNumber, shownOf}
 use Rattle.layers.specs.Seen.{Seen, seen}
@@ -27,7 +27,7 @@ use Rattle.records.specs.Good.{recordsGood}
 use Rattle.records.specs.Step.{freshOf, switchedTo, ticked, reaction, acted}
 use Rattle.records.proofs.GoodLaws.{ticked-good, ticked-shaped, acted-good, acted-shaped}
 use Rattle.records.proofs.WordLaws.{records-back, records-shaped, words-shaped}
-use Rattle.events.specs.Events.{written, eventRoom}
+use Rattle.events.specs.Events.{eventRoom}
 use Rattle.steps.specs.Steps.{Arrival, arrival, turnOf, idAt, eventOf, Outcome, outcomeOf}
 use Rattle.steps.proofs.Laws.{decider-rule, turn-plain}
 use Rattle.firewall.specs.Firewall.{

@@ -4,7 +4,7 @@ use native.Mathlib.Omega.{arith}
 use mathlib.Core.Path.{_≡_, refl, sym, ap, ap₂, subst, _∙_}
 use mathlib.Core.List.{List, [], _∷_, map}
 use lib.ListN.{length}
-use Rattle.numbers.specs.Lists.{each}
+use Rattle.numbers.specs.Lists.{each, written}
 use Rattle.layers.specs.Seen.{seen}
 use Rattle.layers.specs.declared.Layers.{Layers}
 use Rattle.table.specs.declared.Table.{Table}
@@ -18,7 +18,6 @@ use Rattle.records.specs.Good.{recordsGood}
 use Rattle.records.specs.Step.{switchedTo, ticked, acted}
 use Rattle.records.proofs.GoodLaws.{at-plain, switch-shaped}
 use Rattle.records.proofs.WordLaws.{records-back, records-shaped}
-use Rattle.events.specs.Events.{written}
 use Rattle.steps.specs.Steps.{Arrival, arrival, turnOf, idAt, eventOf, Outcome, outcomeOf}
 use Rattle.firewall.specs.Firewall.{answered, After, AfterCall, switchOf, judgeOf}
 use Rattle.theorems.specs.Run.{Item, arrives, switches, go, Told, tell}

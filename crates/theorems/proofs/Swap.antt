@@ -18,7 +18,7 @@ use Rattle.records.specs.Records.{Records, Lent, recordsOf, wordsOf, Shaped}
 use Rattle.records.specs.Good.{recordsGood}
 use Rattle.records.specs.Step.{ticked, reactedAt, reaction, acted}
 use Rattle.records.proofs.GoodLaws.{acted-other, ticked-still}
-use Rattle.events.specs.Events.{written}
+use Rattle.numbers.specs.Lists.{written}
 use Rattle.steps.specs.Steps.{Arrival, turnOf, eventOf, idAt, Outcome}
 use Rattle.firewall.specs.Firewall.{answered, After, judgedAs, judgeOf}
 use Rattle.theorems.specs.Run.{Item, arrives, switches, go, Told, tell, Good, Judges, ApartFrames, Apart}

@@ -5,7 +5,7 @@ use Prim.Native.Nat.{ℕ}
 use mathlib.Core.Path.{_≡_}
 use mathlib.Core.List.{List}
 use lib.ListN.{length}
-use Rattle.numbers.specs.Lists.{All}
+use Rattle.numbers.specs.Lists.{All, Wrote}
 use Rattle.layers.specs.Layers.{shownOf}
 use Rattle.layers.specs.declared.Shown.{Shown}
 use Rattle.table.specs.declared.Table.{Table}
@@ -17,7 +17,6 @@ use Rattle.conversations.specs.declared.Progress.{Progress}
 use Rattle.places.specs.Places.{Place, placesOf, ShapedPlace, ShapedPlaces}
 use Rattle.conversations.specs.Tracking.{Tracked, trackedAs}
 use Rattle.fields.specs.Fields.{Laid}
-use Rattle.events.specs.Events.{Wrote}
 use Rattle.steps.specs.Steps.{Arrival, Outcome, stepped, steppedAs}
 use Rattle.steps.specs.declared.Answer.{Answer}
 use Rattle.firewall.specs.Firewall.{leaves, says, saidChecked, saidStarted, saidSwitched, saidJudged, checkOf, startOf, switchOf, judgeOf}
@@ -35,7 +34,7 @@ pub record RowOf (c : List ℕ) (ps : List (List ℕ)) : Type 0 where
   pub counts : length c ≡ countSize
   pub places : All ShapedPlace ps
 
--- and one that says a verdict by its number, the words by the records, the record or the places in them, a word by its fields, an event written to a space, an answer by what it says
+-- and one that says a verdict by its number, the words by the records, the record or the places in them, a word by its fields, bytes written to a space, an answer by what it says
 pub record Unique : Type 0 where
   pub number : (n : ℕ) (r q : Verdict) → r .number ≡ n → q .number ≡ n → r ≡ q
   pub records : (s : Records) (v u : Lent) → Shaped v → Shaped u → recordsOf v ≡ s → recordsOf u ≡ s → v ≡ u
