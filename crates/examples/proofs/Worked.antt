@@ -81,15 +81,15 @@ use Rattle.examples.specs.Worked.{
 
 -- To compute a run costs little if each call starts from words that are computed already, and far too much if it must compute the
 -- calls before it anew. So each of these hands on what it is given once it is computed, and changes nothing.
-abbrev number : {B : Type 0} → ℕ → (ℕ → B) → B
+abbrev pub number : {B : Type 0} → ℕ → (ℕ → B) → B
 number zero k = k zero
 number (suc n) k = k (suc n)
 
-abbrev listed : {A B : Type 0} → (A → (A → B) → B) → List A → (List A → B) → B
+abbrev pub listed : {A B : Type 0} → (A → (A → B) → B) → List A → (List A → B) → B
 listed f [] k = k []
 listed f (x ∷ l) k = f x (λ y. listed f l (λ m. k (y ∷ m)))
 
-abbrev worded : {B : Type 0} → Lent → (Lent → B) → B
+abbrev pub worded : {B : Type 0} → Lent → (Lent → B) → B
 worded w k =
     listed number (w .head) (λ h.
     listed (listed number) (w .counts) (λ c.
@@ -112,7 +112,7 @@ listed-same : {A B : Type 0} (f : A → (A → B) → B) → ((x : A) (k : A →
 listed-same f h [] k = refl
 listed-same f h (x ∷ l) k = h x _ ∙ listed-same f h l (λ m. k (x ∷ m))
 
-worded-same : {B : Type 0} (w : Lent) (k : Lent → B) → worded w k ≡ k w
+pub worded-same : {B : Type 0} (w : Lent) (k : Lent → B) → worded w k ≡ k w
 worded-same w k =
     listed-same _ number-same (w .head) _
     ∙ listed-same _ (listed-same _ number-same) (w .counts) _

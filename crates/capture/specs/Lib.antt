@@ -1,0 +1,4 @@
+pub mod Fields
+pub mod Capture
+pub mod Parts
+pub mod Meaning

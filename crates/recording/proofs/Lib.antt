@@ -1,0 +1,5 @@
+pub mod OnJudging
+pub mod OnRun
+pub mod OnFeed
+pub mod Whole
+pub mod Once

@@ -1,0 +1,4 @@
+pub mod Run
+pub mod Feed
+pub mod ByParts
+pub mod Unique

@@ -1,0 +1,2 @@
+pub mod OnPosition
+pub mod OnTable

@@ -1,0 +1,255 @@
+// Judges a capture on standard input under table T: a line a record with place, time in ms, verdict, rule and event.
+ghost use mathlib.Core.Path.{_≡_};
+ghost use mathlib.Core.Bool.{true};
+ghost use Prim.Native.Nat.{_+_, _≤_};
+ghost use lib.ListN.{length};
+ghost use Rattle.numbers.specs.Lists.{Wrote};
+ghost use Rattle.table.specs.declared.Table.{Table};
+ghost use Rattle.table.specs.Words.{tableIn};
+ghost use Rattle.paper.specs.TableT.{tableT};
+ghost use Rattle.records.specs.Records.{Lent, lent, before, after};
+ghost use Rattle.capture.specs.Parts.{calls};
+ghost use Rattle.recording.specs.Run.{run, Begun};
+ghost use Rattle.recording.specs.Feed.{Ready};
+ghost use Rattle.recording.specs.ByParts.{advance};
+ghost use Rattle.replay.specs.Position.{
+  bufferSize,
+  mostMoves,
+  goingIn,
+  Sound,
+  arrivedAs,
+  lastText,
+  isDone,
+  Turned,
+  Reached,
+};
+use capture::State;
+use capture::keep::keep;
+use capture::moves::end_of;
+use libc::STDIN_FILENO;
+use libc::STDOUT_FILENO;
+use places::PLACE_WORDS;
+use recording::feeding::feed;
+use recording::feeding::finish;
+use records::COUNT_ROWS;
+use records::Counts;
+use records::HEAD_WORDS;
+use records::Head;
+use records::Places;
+use table::PLACES;
+use table::RULES;
+use table::words::ROW_WORDS;
+use table::words::ROWS;
+use table::words::TableWords;
+use verdicts::COUNT_WORDS;
+
+// Nothing says that an input ends, so the turns are counted down from a number that no run uses up.
+const TURNS: u64 = 18014398509481984;
+
+// Between two turns: the bytes at hand are those of the buffer from `at` to `end`; `more` asks for others, `over` ends the run.
+pub struct Position {
+    pub state: State,
+    pub place: u64,
+    pub at: usize,
+    pub end: usize,
+    pub more: bool,
+    pub over: bool,
+}
+
+// What one read brought: so many bytes, none at the end of the input or where it failed.
+pub struct Got {
+    pub count: usize,
+    pub failed: bool,
+}
+
+fn read_part(part: &mut [u8]) -> Got
+    ensures { λ r. ⌜ r .count ≤ length (now (part .entry)) ⌝ }
+{
+    let got = libc::read(STDIN_FILENO, part);
+    Got {
+        count: io::count(got, part),
+        failed: got < 0,
+    }
+}
+
+fn arrived(p: Position, kept: usize, got: Got) -> Position
+    requires { ⌜ kept + got .count ≤ bufferSize ⌝ }
+    ensures { λ r. ⌜ r ≡ arrivedAs p kept got ⌝ }
+{
+    let state = p.state;
+    let nothing = got.count == 0;
+    Position {
+        state,
+        place: p.place,
+        at: 0,
+        end: kept + got.count,
+        more: nothing,
+        over: nothing,
+    }
+}
+
+// The line that the end of the input adds; a read that failed adds none.
+fn last_text(st: State, kept: usize, failed: bool, out: &mut [u8]) -> usize
+    requires { ⌜ length (now out) ≡ bufferSize ⌝ }
+    ensures { λ r. ⌜ Wrote (lastText st kept failed) (now (out .entry)) (now (out .exit)) r ⌝ }
+{
+    if failed {
+        return 0;
+    }
+    finish(end_of(st, kept), out)
+}
+
+fn close(st: State, kept: usize, failed: bool, out: &mut [u8])
+    requires { ⌜ length (now out) ≡ bufferSize ⌝ }
+{
+    let count = last_text(st, kept, failed, out);
+    io::write_all(STDOUT_FILENO, &out[..count]);
+}
+
+// Keeps what was not used, and reads behind it.
+fn refill(p: Position, buf: &mut [u8], out: &mut [u8]) -> Position
+    requires sound { ⌜ Sound p (now buf) ⌝ }
+    requires more { ⌜ p .more ≡ true ⌝ }
+    requires buffer { ⌜ length (now buf) ≡ bufferSize ⌝ }
+    requires room { ⌜ length (now out) ≡ bufferSize ⌝ }
+    ensures sound { λ r. ⌜ Sound r (now (buf .exit)) ⌝ }
+    ensures turned { λ r. ⌜ ((t : Table) (w : Lent) → Turned t p (now (buf .entry)) w r (now (buf .exit)) w) ⌝ }
+    ensures place { λ r. ⌜ r .place ≡ p .place ⌝ }
+{
+    let at = p.at;
+    let end = p.end;
+    let state = p.state;
+    let kept = keep(buf, at, end);
+    let got = read_part(&mut buf[kept..]);
+    let q = arrived(p, kept, got);
+    if q.over {
+        close(state, kept, got.failed, out);
+    }
+    q
+}
+
+fn is_done(st: State) -> bool
+    ensures { λ r. ⌜ r ≡ isDone st ⌝ }
+{
+    match st {
+        State::Start => false,
+        State::Records(_) => false,
+        State::Passing {
+            form: _,
+            time: _,
+            why: _,
+            left: _,
+        } => false,
+        State::Done => true,
+    }
+}
+
+// Judges what is whole in the bytes at hand and prints it. A bad header and an output that is closed end the run.
+fn judge_on(
+    t: &TableWords,
+    p: Position,
+    head: &mut Head,
+    counts: &mut Counts,
+    places: &mut Places,
+    buf: &[u8],
+    out: &mut [u8],
+) -> Position
+    requires sound { ⌜ Sound p (now buf) ⌝ }
+    requires buffer { ⌜ length (now buf) ≡ bufferSize ⌝ }
+    requires room { ⌜ length (now out) ≡ bufferSize ⌝ }
+    requires ready { ⌜ Ready (tableIn (now t)) (lent (now head) (now counts) (now places)) (p .place) mostMoves ⌝ }
+    ensures sound { λ r. ⌜ Sound r (now (buf .entry)) ⌝ }
+    ensures call { λ r. ⌜
+        goingIn r (now (buf .entry)) (after head counts places)
+        ≡ advance (tableIn (now (t .entry))) (goingIn p (now (buf .entry)) (before head counts places)) (calls mostMoves)
+        ⌝ }
+    ensures places { λ r. ⌜ r .place ≤ p .place + mostMoves ⌝ }
+    ensures records { λ r. ⌜ Begun (tableIn (now (t .entry))) (run (r .place) (after head counts places)) ⌝ }
+{
+    let at = p.at;
+    let end = p.end;
+    let state = p.state;
+    let f = feed(t, state, p.place, &buf[at..end], head, counts, places, out);
+    let count = f.count;
+    let printed = io::write_all(STDOUT_FILENO, &out[..count]);
+    let next = f.state;
+    let used = at + f.used;
+    Position {
+        state: next,
+        place: f.place,
+        at: used,
+        end,
+        more: f.more,
+        over: !printed | is_done(next),
+    }
+}
+
+fn turn(
+    t: &TableWords,
+    p: Position,
+    head: &mut Head,
+    counts: &mut Counts,
+    places: &mut Places,
+    buf: &mut [u8],
+    out: &mut [u8],
+) -> Position
+    requires sound { ⌜ Sound p (now buf) ⌝ }
+    requires buffer { ⌜ length (now buf) ≡ bufferSize ⌝ }
+    requires room { ⌜ length (now out) ≡ bufferSize ⌝ }
+    requires ready { ⌜ Ready (tableIn (now t)) (lent (now head) (now counts) (now places)) (p .place) mostMoves ⌝ }
+    ensures sound { λ r. ⌜ Sound r (now (buf .exit)) ⌝ }
+    ensures turned { λ r. ⌜
+        Turned (tableIn (now (t .entry))) p (now (buf .entry)) (before head counts places) r (now (buf .exit)) (after head counts places)
+        ⌝ }
+    ensures places { λ r. ⌜ r .place ≤ p .place + mostMoves ⌝ }
+    ensures records { λ r. ⌜ Begun (tableIn (now (t .entry))) (run (r .place) (after head counts places)) ⌝ }
+{
+    if p.more {
+        return refill(p, buf, out);
+    }
+    judge_on(t, p, head, counts, places, buf, out)
+}
+
+// Turn after turn from the start: all that happens is that parts come and calls are made, so what is printed is what `ByParts` says.
+fn replay(
+    t: &TableWords,
+    head: &mut Head,
+    counts: &mut Counts,
+    places: &mut Places,
+    buf: &mut [u8],
+    out: &mut [u8],
+) -> Position
+    requires table { ⌜ tableIn (now t) ≡ tableT ⌝ }
+    requires buffer { ⌜ length (now buf) ≡ bufferSize ⌝ }
+    requires room { ⌜ length (now out) ≡ bufferSize ⌝ }
+    ensures { λ r. ⌜ Reached tableT (before head counts places) r (now (buf .exit)) (after head counts places) ⌝ }
+{
+    let mut p = Position {
+        state: State::Start,
+        place: 0,
+        at: 0,
+        end: 0,
+        more: true,
+        over: false,
+    };
+    let mut turns = TURNS;
+    while 0 < turns {
+        p = turn(t, p, head, counts, places, buf, out);
+        if p.over {
+            return p;
+        }
+        turns -= 1;
+    }
+    p
+}
+
+fn main() {
+    let mut t: TableWords = [[0; ROW_WORDS]; ROWS];
+    lay::table(paper::rules::table(), &mut t);
+    let mut head: Head = [0; HEAD_WORDS];
+    let mut counts: Counts = [[0; COUNT_WORDS]; COUNT_ROWS];
+    let mut places: Places = [[[0; PLACE_WORDS]; PLACES]; RULES];
+    let mut buf = io::large_buffer();
+    let mut out = io::large_buffer();
+    replay(&t, &mut head, &mut counts, &mut places, &mut buf, &mut out);
+}
