@@ -48,6 +48,10 @@ pub enum Refusal {
     },
     BadRecord,
     NoSuchState,
+    /// A record of a capture stored shorter than it was on the wire.
+    StoredShort,
+    /// A capture whose file header is short or no good one.
+    BadCapture,
 }
 
 impl Refusal {
@@ -62,6 +66,8 @@ impl Refusal {
             Refusal::BadTable { .. } => 4,
             Refusal::BadRecord => 5,
             Refusal::NoSuchState => 6,
+            Refusal::StoredShort => 7,
+            Refusal::BadCapture => 8,
         }
     }
 

@@ -3,6 +3,8 @@
 mod answer;
 #[cfg(test)]
 mod bundles;
+mod capture;
+mod captures;
 mod dispatch;
 mod draft;
 mod event;
@@ -24,6 +26,10 @@ mod reach;
 mod readings;
 mod recording;
 mod records;
+mod replay;
+#[cfg(test)]
+mod replaying;
+mod rewrite;
 mod setting;
 mod stream;
 mod table;
@@ -32,17 +38,29 @@ mod table_t;
 mod worked;
 mod world;
 
-use std::io::{self, BufReader, BufWriter};
+use std::io::{self, BufReader, BufWriter, StdinLock, StdoutLock, Write};
+use std::path::Path;
 use std::process::ExitCode;
 
 const BUFFER: usize = 1 << 16;
+type Input = BufReader<StdinLock<'static>>;
+type Output = BufWriter<StdoutLock<'static>>;
 
 fn main() -> ExitCode {
     let arguments: Vec<String> = std::env::args().skip(1).collect();
     let words: Vec<&str> = arguments.iter().map(String::as_str).collect();
     let done = match words[..] {
-        ["run"] => run(),
-        ["recording"] => recording(),
+        ["run"] => piped(stream::run),
+        ["recording"] => piped(recording::stream),
+        ["replay"] => piped(|input, output| replay::lines(input, output)),
+        ["rewrite", order, precision] => match rewrite::form(order, precision) {
+            Some(form) => piped(|input, output| rewrite::rewrite(input, form, output)),
+            None => return usage(),
+        },
+        ["captures", seed, count, directory] => match (seed.parse(), count.parse()) {
+            (Ok(seed), Ok(count)) => captures(seed, count, Path::new(directory)),
+            _ => return usage(),
+        },
         ["gen", seed, calls] => match (seed.parse(), calls.parse()) {
             (Ok(seed), Ok(calls)) => gen(seed, calls),
             _ => return usage(),
@@ -62,17 +80,12 @@ fn main() -> ExitCode {
     }
 }
 
-fn run() -> io::Result<ExitCode> {
+/// From standard input to standard output, both by parts.
+fn piped(make: impl FnOnce(&mut Input, &mut Output) -> io::Result<()>) -> io::Result<ExitCode> {
     let mut input = BufReader::with_capacity(BUFFER, io::stdin().lock());
     let mut output = BufWriter::with_capacity(BUFFER, io::stdout().lock());
-    stream::run(&mut input, &mut output)?;
-    Ok(ExitCode::SUCCESS)
-}
-
-fn recording() -> io::Result<ExitCode> {
-    let mut input = BufReader::with_capacity(BUFFER, io::stdin().lock());
-    let mut output = BufWriter::with_capacity(BUFFER, io::stdout().lock());
-    recording::stream(&mut input, &mut output)?;
+    make(&mut input, &mut output)?;
+    output.flush()?;
     Ok(ExitCode::SUCCESS)
 }
 
@@ -83,6 +96,12 @@ fn gen(seed: u64, calls: u64) -> io::Result<ExitCode> {
     Ok(if complete || calls < gen::ENOUGH { ExitCode::SUCCESS } else { ExitCode::FAILURE })
 }
 
+/// The same of captures.
+fn captures(seed: u64, count: u64, directory: &Path) -> io::Result<ExitCode> {
+    let complete = captures::write(seed, count, directory)?;
+    Ok(if complete || count < captures::ENOUGH { ExitCode::SUCCESS } else { ExitCode::FAILURE })
+}
+
 fn pace(scene: &pace::Scene, times: u32, step: u32) -> io::Result<ExitCode> {
     let mut output = BufWriter::with_capacity(BUFFER, io::stdout().lock());
     scene.write(times, step, &mut output)?;
@@ -91,6 +110,8 @@ fn pace(scene: &pace::Scene, times: u32, step: u32) -> io::Result<ExitCode> {
 
 fn usage() -> ExitCode {
     eprintln!("second run < stream > lines\nsecond recording < capture > stream\nsecond gen SEED N > stream");
+    eprintln!("second replay < capture > lines\nsecond captures SEED N DIRECTORY");
+    eprintln!("second rewrite big|little micro|nano < capture > capture");
     eprintln!("second pace SCENE TIMES STEP > stream, SCENE one of worked, last, none, held, six, chain, message,");
     eprintln!("  bundle, codes, dearest,");
     eprintln!(

@@ -139,6 +139,11 @@ impl Reach {
         names.extend(Wish::all().into_iter().map(Wish::name));
         names.extend(Bundle::all().into_iter().map(Bundle::name));
         names.extend((0..4).flat_map(|held| flag_sets().map(move |flags| flags_name(held, flags))));
+        Reach::of(names)
+    }
+
+    /// These names, none of them reached.
+    pub fn of(names: Vec<String>) -> Reach {
         Reach(names.into_iter().map(|name| (name, 0)).collect())
     }
 
@@ -162,10 +167,14 @@ impl Reach {
         for (name, count) in &self.0 {
             eprintln!("{name} {count}");
         }
-        self.0.values().filter(|count| **count == 0).count()
+        self.missing().len()
     }
 
-    fn hit_if(&mut self, name: &str, reached: bool) {
+    pub fn missing(&self) -> Vec<&str> {
+        self.0.iter().filter(|(_, count)| **count == 0).map(|(name, _)| name.as_str()).collect()
+    }
+
+    pub fn hit_if(&mut self, name: &str, reached: bool) {
         if reached {
             self.hit(name);
         }
