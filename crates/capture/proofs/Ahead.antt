@@ -119,7 +119,7 @@ module _ (f : Form) (s : List ℕ) (here : headSize ≤ length s) where
       cond-both (Same (state.Records f) s) (ltb longest (h .stored)) _ _
       (λ g. pass-same refusal.TooLong (λ v l. rw (t, length-take-le (h .stored) (drop headSize v) l, g)))
       (λ g.
-      cond-both (Same (state.Records f) s) (ltb (length s) (headSize + h .stored)) _ _
+      cond-both (Same (state.Records f) s) _ _ _
       (λ c u. refl)
       (λ c. whole-same (ltb-false _ _ t) (ltb-false longest (h .stored) g) (ltb-false (length s) (headSize + h .stored) c))))
 
