@@ -43,9 +43,11 @@ formTests f s =
     ∷ eqb (numberAt (f .big) 4 s 20) 1
     ∷ []
 
+-- all of them hold
 unfoldable pub isOf : Form → List ℕ → Bool
 isOf f s = every (formTests f s)
 
+-- made of its parts
 abbrev pub form : Bool → Bool → Form
 form big nano = record { big = big; nano = nano }
 

@@ -58,6 +58,7 @@ recordMove f h s =
     (cond (ltb (length s) (headSize + h .stored)) (waits (state.Records f))
     (goes (state.Records f) (headSize + h .stored) (found.Frame (h .time) (h .stored)))))
 
+-- a move, by what is to come: the file header, a record, the rest of a refused one, or nothing that matters
 unfoldable pub moveOf : State → List ℕ → Move
 moveOf state.Start s = cond (ltb (length s) headerSize) (waits state.Start) (headed (headerOf s))
 moveOf (state.Records f) s = cond (ltb (length s) headSize) (waits (state.Records f)) (recordMove f (headOf f s) s)
@@ -112,19 +113,23 @@ pub record Kept : Type 0 where
   pub state : State
   pub rest : List ℕ
 
+-- made of its parts
 abbrev pub kept : State → List ℕ → Kept
 kept st s = record { state = st; rest = s }
 
+-- what may happen
 pub data Happening : Type 0 where
   -- a part of the capture comes, behind what is left of the parts before it
   comes : List ℕ → Happening
   -- a call of at most so many moves
   calls : ℕ → Happening
 
+-- what is kept after it
 unfoldable pub goOn : Kept → Happening → Kept
 goOn x (comes part) = kept (x .state) (x .rest ++ part)
 goOn x (calls n) = let m = movesOf n (x .state) (x .rest) in kept (m .state) (drop (m .used) (x .rest))
 
+-- what it finds
 unfoldable pub finds : Kept → Happening → List Item
 finds x (comes part) = []
 finds x (calls n) = movesOf n (x .state) (x .rest) .items
@@ -136,11 +141,13 @@ endOf (state.Records f) n = cond (eqb n 0) end.Whole end.Cut
 endOf (state.Passing f time why left) n = end.Cut
 endOf state.Done n = end.Whole
 
+-- as items
 abbrev pub endItems : End → List Item
 endItems end.Whole = []
 endItems end.BadHeader = BadHeader ∷ []
 endItems end.Cut = Cut ∷ []
 
+-- of what is kept when no more comes
 abbrev pub atEnd : Kept → List Item
 atEnd x = endItems (endOf (x .state) (length (x .rest)))
 

@@ -25,16 +25,13 @@ pub record Run : Type 0 where
   pub place : ℕ
   pub words : Lent
 
+-- made of its parts
 abbrev pub run : ℕ → Lent → Run
 run place w = record { place = place; words = w }
 
 -- "fresh at the first record's time", whatever becomes of that record
 abbrev pub begun : Table → Run → ℕ → Lent
 begun t r time = cond (eqb (r .place) 0) (startOf t time (r .words) .words) (r .words)
-
--- where a record has begun them they are good; before the first one nothing is asked of the words
-abbrev pub Begun : Table → Run → Type 0
-Begun t r = (r .place ≡ 0 → ⊥) → Good t (r .words)
 
 -- the call that judges a frame, by 01's own definition, with an event space of 256 zeros
 unfoldable pub judged : Table → Run → ℕ → List ℕ → After
@@ -65,18 +62,6 @@ runBy t r Cut = r
 runBy t r (Refused time number) = run (suc (r .place)) (begun t r time)
 runBy t r (Frame time bytes) = run (suc (r .place)) (judged t r time bytes .words)
 
--- the line of a frame, and the words that its call leaves
-pub record Judgement : Type 0 where
-  pub line : Line
-  pub words : Lent
-
-abbrev pub judgement : Line → Lent → Judgement
-judgement l w = record { line = l; words = w }
-
--- by what the call says and leaves
-abbrev pub judgementOf : ℕ → ℕ → After → Judgement
-judgementOf place time x = judgement (lineAs place time (x .said) (x .space)) (x .words)
-
 -- the lines of items, one behind the other
 abbrev pub linesOf : Table → Run → List Item → List Line
 linesOf t r items = said (runBy t) (lineOf t) r items
@@ -94,3 +79,22 @@ endLines end.Cut = line.Cut ∷ []
 -- THE DEFINITION: what is printed of the capture s, judged under t; w are the words that the records stand in
 unfoldable pub printed : Table → Lent → List ℕ → List ℕ
 printed t w s = textOfAll (linesOf t (run 0 w) (itemsOf s))
+
+-- ---- what the code of one record promises and asks
+
+-- the line of a frame, and the words that its call leaves
+pub record Judgement : Type 0 where
+  pub line : Line
+  pub words : Lent
+
+-- made of its parts
+abbrev pub judgement : Line → Lent → Judgement
+judgement l w = record { line = l; words = w }
+
+-- by what the call says and leaves
+abbrev pub judgementOf : ℕ → ℕ → After → Judgement
+judgementOf place time x = judgement (lineAs place time (x .said) (x .space)) (x .words)
+
+-- where a record has begun them they are good; before the first one nothing is asked of the words
+abbrev pub Begun : Table → Run → Type 0
+Begun t r = (r .place ≡ 0 → ⊥) → Good t (r .words)
