@@ -12,8 +12,8 @@ use lib.Dec.{ltb, eqb}
 use borrow.Author.Tests.{lt-ltb, le-ltb, ltb-true, ltb-false, ne-eqb}
 use Rattle.numbers.proofs.Lists.{cond-both}
 use Rattle.numbers.proofs.Tests.{by-test}
-use Rattle.capture.specs.Capture.{Item, BadHeader, Cut, Refused, Frame, headerSize, headSize, headerOf, headOf, sizeOf, itemOf, storedIn, behind, itemsOf}
-use Rattle.capture.specs.Parts.{longest, headed, refusalNumber, passes, recordMove, moveOf, itemsIn, Moves, last, then, movesOf, AtHand, Kept, kept, endOf, endItems, atEnd, asFound}
+use Rattle.capture.specs.Capture.{Item, BadHeader, Cut, Refused, Frame, headerSize, headSize, headerOf, headOf, sizeOf, refusalNumber, itemOf, storedIn, behind, itemsOf}
+use Rattle.capture.specs.Parts.{longest, headed, passes, recordMove, moveOf, itemsIn, Moves, last, then, movesOf, AtHand, Kept, kept, AtRest, calls, goOn, endOf, endItems, atEnd, asFound}
 use Rattle.capture.specs.declared.Form.{Form}
 use Rattle.capture.specs.declared.Head.{Head}
 use Rattle.capture.specs.declared.Header.{Header}
@@ -191,7 +191,7 @@ cut-rests f (b ∷ s) h =
     rw n (ap (map asFound) (records-cut f (b ∷ s) (omega arith) h))
 
 -- what the end would add is all that is still to be found
-pub move-rests : (st : State) (s : List ℕ) → moveOf st s .more ≡ true → ahead st s ≡ atEnd (kept st s)
+pub move-rests : (st : State) (s : List ℕ) → AtRest (kept st s) → ahead st s ≡ atEnd (kept st s)
 unfolding moveOf ahead endOf itemsOf asFound
 move-rests state.Start s h = rw (lt-ltb _ _ (start-waits s h))
 move-rests (state.Records f) s h = cut-rests f s (record-waits f s h .0)
@@ -203,7 +203,7 @@ move-rests (state.Passing f time why left) s h =
 move-rests state.Done s h = refl
 
 -- and no further move could find more
-move-still : (st : State) (s : List ℕ) → moveOf st s .more ≡ true → moveOf (moveOf st s .state) (drop (moveOf st s .used) s) .more ≡ true
+move-still : (st : State) (s : List ℕ) → AtRest (kept st s) → AtRest (kept (moveOf st s .state) (drop (moveOf st s .used) s))
 unfolding moveOf recordMove
 move-still state.Start s = λ h. let e = lt-ltb (length s) headerSize (start-waits s h) in rw (e, e)
 move-still (state.Records f) s =
@@ -295,14 +295,12 @@ moves-short (suc n) st s =
     cond-both (λ (x : Moves). x .more ≡ true → length s - x .used < headSize + longest) (m .more) _ _ (λ e h. kept-short st s e)
     (λ e h. omega (arith, moves-short n (m .state) (drop (m .used) s) h, length-drop (m .used) s))
 
-pub moves-rest :
-    (n : ℕ) (st : State) (s : List ℕ) → movesOf n st s .more ≡ true
-    → moveOf (movesOf n st s .state) (drop (movesOf n st s .used) s) .more ≡ true
-unfolding movesOf
+pub moves-rest : (n : ℕ) (st : State) (s : List ℕ) → movesOf n st s .more ≡ true → AtRest (goOn (kept st s) (calls n))
+unfolding movesOf goOn
 moves-rest zero st s = λ h. absurd (false≢true h)
 moves-rest (suc n) st s =
     let m : Move = moveOf st s in
-    cond-both (λ (x : Moves). x .more ≡ true → moveOf (x .state) (drop (x .used) s) .more ≡ true) (m .more) _ _ (λ e h. move-still st s e)
+    cond-both (λ (x : Moves). x .more ≡ true → AtRest (kept (x .state) (drop (x .used) s))) (m .more) _ _ (λ e h. move-still st s e)
     (λ e h. rw (← drop-drop (movesOf n (m .state) (drop (m .used) s) .used) (m .used) s) (moves-rest n (m .state) (drop (m .used) s) h))
 
 -- ---- a call as its first move, and the others

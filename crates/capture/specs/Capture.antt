@@ -5,13 +5,15 @@ use Prim.Native.Nat.{ℕ, zero, suc, _+_, _*_, _/_}
 use mathlib.Core.List.{List, [], _∷_}
 use mathlib.Core.Bool.{Bool, cond, true, false}
 use lib.ListN.{length, take, drop}
-use lib.Dec.{leb, ltb, eqb}
+use lib.Dec.{ltb, eqb}
 use Rattle.numbers.specs.Lists.{every}
 use Rattle.capture.specs.Fields.{numberAt}
 use Rattle.capture.specs.declared.Form.{Form}
 use Rattle.capture.specs.declared.Head.{Head}
 use Rattle.capture.specs.declared.Header.{Header}
 use Rattle.capture.specs.declared.Header.the-variants as header
+use Rattle.capture.specs.declared.RecordRefusal.{RecordRefusal}
+use Rattle.capture.specs.declared.RecordRefusal.the-variants as refusal
 
 -- what a capture holds
 pub data Item : Type 0 where
@@ -81,9 +83,16 @@ headOf f s = record { time = timeOf f s; stored = numberAt (f .big) 4 s 8; wire 
 abbrev pub sizeOf : Form → List ℕ → ℕ
 sizeOf f s = headSize + headOf f s .stored
 
--- "7 for a record stored shorter than it was on the wire, before 1 and 2"
+-- "7 for a record stored shorter than it was on the wire"; 2 is 01's for a frame over 1,518 bytes
+abbrev pub refusalNumber : RecordRefusal → ℕ
+refusalNumber refusal.TooLong = 2
+refusalNumber refusal.StoredShort = 7
+
+-- 7 comes "before 1 and 2", so before the bytes are looked at
 unfoldable pub itemOf : Head → List ℕ → Item
-itemOf h s = cond (ltb (h .stored) (h .wire)) (Refused (h .time) 7) (Frame (h .time) (take (h .stored) (drop headSize s)))
+itemOf h s =
+    cond (ltb (h .stored) (h .wire)) (Refused (h .time) (refusalNumber refusal.StoredShort))
+    (Frame (h .time) (take (h .stored) (drop headSize s)))
 
 -- ---- the whole
 
@@ -95,7 +104,7 @@ storedBy (suc n) f (b ∷ l) =
     let s = b ∷ l in
     cond (ltb (length s) (sizeOf f s)) (Cut ∷ []) (itemOf (headOf f s) s ∷ storedBy n f (drop (sizeOf f s) s))
 
--- all of them: there are fewer records than bytes
+-- all of them: there are no more records than bytes
 unfoldable pub storedIn : Form → List ℕ → List Item
 storedIn f s = storedBy (length s) f s
 

@@ -1,13 +1,13 @@
 -- What the definitions mean, each statement under its own name.
 -- Assumes nothing.
-use Prim.Native.Nat.{ℕ, _+_, _-_, _<_, _≤_}
+use Prim.Native.Nat.{ℕ, _+_, _<_, _≤_}
 use mathlib.Core.Path.{_≡_}
 use mathlib.Core.Bool.{Bool, true, not}
 use mathlib.Core.List.{List, [], _∷_, reverse}
 use lib.ListN.{length, drop}
 use Rattle.capture.specs.Fields.{field, numberAt}
 use Rattle.capture.specs.Capture.{Cut, headSize, headOf, sizeOf, itemOf, storedIn}
-use Rattle.capture.specs.Parts.{longest, moveOf, movesOf}
+use Rattle.capture.specs.Parts.{longest, movesOf, kept, AtRest, calls, goOn}
 use Rattle.capture.specs.declared.Form.{Form}
 use Rattle.capture.specs.declared.State.{State}
 
@@ -26,11 +26,9 @@ pub record RecordByRecord : Type 0 where
 
 -- a call that needs more bytes has found all that is at hand: no further move could find more, which is what the theorems ask before the end
 abbrev pub NeedsMore : Type 0
-NeedsMore =
-    (n : ℕ) (st : State) (s : List ℕ) → movesOf n st s .more ≡ true
-    → moveOf (movesOf n st s .state) (drop (movesOf n st s .used) s) .more ≡ true
+NeedsMore = (n : ℕ) (st : State) (s : List ℕ) → movesOf n st s .more ≡ true → AtRest (goOn (kept st s) (calls n))
 
 -- what a call leaves where it needs more bytes, and has to be kept: less than a record's header and the longest frame, whatever lengths the capture says
 abbrev pub KeepsLittle : Type 0
 KeepsLittle =
-    (n : ℕ) (st : State) (s : List ℕ) → movesOf n st s .more ≡ true → length s - movesOf n st s .used < headSize + longest
+    (n : ℕ) (st : State) (s : List ℕ) → movesOf n st s .more ≡ true → length (goOn (kept st s) (calls n) .rest) < headSize + longest

@@ -7,7 +7,7 @@ use mathlib.Core.Bool.{Bool, cond, true, false}
 use lib.ListN.{length, take, drop}
 use lib.Dec.{ltb, eqb}
 use Rattle.numbers.specs.Lists.{joined, ends, said}
-use Rattle.capture.specs.Capture.{Item, BadHeader, Cut, Refused, Frame, headerSize, headSize, headerOf, headOf, itemsOf}
+use Rattle.capture.specs.Capture.{Item, BadHeader, Cut, Refused, Frame, headerSize, headSize, headerOf, headOf, refusalNumber, itemsOf}
 use Rattle.capture.specs.declared.Form.{Form}
 use Rattle.capture.specs.declared.Head.{Head}
 use Rattle.capture.specs.declared.Header.{Header}
@@ -40,11 +40,6 @@ goes st n x = record { state = st; used = n; found = x; more = false }
 abbrev pub headed : Header → Move
 headed header.Bad = goes state.Done headerSize found.BadHeader
 headed (header.Good f) = goes (state.Records f) headerSize found.Nothing
-
--- the papers' number of each refusal
-abbrev pub refusalNumber : RecordRefusal → ℕ
-refusalNumber refusal.TooLong = 2
-refusalNumber refusal.StoredShort = 7
 
 -- a record that is refused by its header alone: its bytes are passed over
 abbrev pub passes : Form → Head → RecordRefusal → Move
@@ -117,6 +112,10 @@ pub record Kept : Type 0 where
 abbrev pub kept : State → List ℕ → Kept
 kept st s = record { state = st; rest = s }
 
+-- no call could find more
+abbrev pub AtRest : Kept → Type 0
+AtRest x = moveOf (x .state) (x .rest) .more ≡ true
+
 -- what may happen
 pub data Happening : Type 0 where
   -- a part of the capture comes, behind what is left of the parts before it
@@ -162,11 +161,11 @@ unfoldable pub asFound : Item → Item
 asFound BadHeader = BadHeader
 asFound Cut = Cut
 asFound (Refused time number) = Refused time number
-asFound (Frame time bytes) = cond (ltb longest (length bytes)) (Refused time 2) (Frame time bytes)
+asFound (Frame time bytes) = cond (ltb longest (length bytes)) (Refused time (refusalNumber refusal.TooLong)) (Frame time bytes)
 
 -- THE THEOREM, on items: however a capture comes by parts and however the calls are made, once no call could find more,
 -- what the calls found and what the end adds are the items of the whole
 abbrev pub AsTheWhole : Type 0
 AsTheWhole =
-    (es : List Happening) → let x = ends goOn (kept state.Start []) es in moveOf (x .state) (x .rest) .more ≡ true
+    (es : List Happening) → let x = ends goOn (kept state.Start []) es in AtRest x
     → joined (said goOn finds (kept state.Start []) es) ++ atEnd x ≡ map asFound (itemsOf (allOf es))

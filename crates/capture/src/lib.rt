@@ -1,6 +1,6 @@
 // Reads a classic pcap capture by parts. It does no input and no output: the caller lends the bytes at hand.
 ghost use mathlib.Core.Path.{_≡_};
-ghost use Rattle.capture.specs.Parts.{refusalNumber};
+ghost use Rattle.capture.specs.Capture.{refusalNumber};
 
 pub mod fields;
 pub mod headers;

@@ -26,7 +26,6 @@ recordIn big = hex 8 0 ++ fieldIn big 4 60 ++ fieldIn big 4 60 ++ frame0806
 unfoldable pub threeFrames : Bool → Bool → List ℕ
 threeFrames big nano = headerIn big nano ++ recordIn big ++ recordIn big ++ recordIn big
 
--- the three lines
 -- the three lines, byte by byte: `0` is 48, a space 32, the end of a line 10
 unfoldable pub threeLines : List ℕ
 threeLines =

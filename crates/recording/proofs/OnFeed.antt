@@ -14,8 +14,8 @@ use Rattle.table.specs.declared.Table.{Table}
 use Rattle.faults.specs.declared.Fault.the-variants as fault
 use Rattle.faults.specs.Faults.{faultOf}
 use Rattle.records.specs.Records.{Lent}
-use Rattle.capture.specs.Capture.{Item, BadHeader, Cut, Refused, Frame, headSize}
-use Rattle.capture.specs.Parts.{refusalNumber, moveOf, itemsIn, AtHand, Moves, movesOf}
+use Rattle.capture.specs.Capture.{Item, BadHeader, Cut, Refused, Frame, headSize, refusalNumber}
+use Rattle.capture.specs.Parts.{moveOf, itemsIn, AtHand, Moves, movesOf}
 use Rattle.capture.specs.declared.RecordRefusal.{RecordRefusal}
 use Rattle.capture.specs.declared.State.{State}
 use Rattle.capture.specs.declared.Found.{Found}
@@ -26,8 +26,8 @@ use Rattle.lines.specs.Lines.{textOf, lineRoom}
 use Rattle.lines.specs.declared.Line.{Line}
 use Rattle.lines.specs.declared.Line.the-variants as line
 use Rattle.lines.proofs.Meaning.{text-most}
-use Rattle.recording.specs.Run.{Run, run, begun, Begun, judged, lineOf, runBy, Judgement, judgement, judgementOf, linesOf, textOfAll}
-use Rattle.recording.specs.Feed.{placeAfter, Tells, AfterFeed, feeds, afterMoves, fedOf, behind, oneMore}
+use Rattle.recording.specs.Run.{Run, run, begun, Begun, lineOf, runBy, linesOf, textOfAll}
+use Rattle.recording.specs.Feed.{placeAfter, Tells, AfterFeed, feeds, afterMoves, fedOf, behindOthers, oneMore}
 use Rattle.recording.specs.declared.Fed.{Fed}
 use Rattle.recording.proofs.OnRun.{text-append, runs-begun}
 
@@ -64,16 +64,15 @@ module _ (t : Table) (r : Run) (f : Found) (s : List ℕ) where
   -- a frame: its line and its words are those of the call that judges it
   pub tells-frame :
       (time len : ℕ) (w : Lent) (l : Line) (out after : List ℕ) (n : ℕ) → f ≡ found.Frame time len
-      → judgement l w ≡ judgementOf (r .place) time (judged t r time (take (headSize + len - headSize) (drop headSize s)))
+      → let i = Frame time (take (headSize + len - headSize) (drop headSize s)) in
+      (l ≡ lineOf t r i) × (w ≡ runBy t r i .words)
       → Wrote (textOf l) out after n
       → Tells t r (itemsIn f s) w out after n
-  unfolding runBy lineOf
   tells-frame time len w l out after n e k h =
-      let bytes : List ℕ = take len (drop headSize s) in
+      let i : ℕ → Item = λ m. Frame time (take m (drop headSize s)) in
       let same : headSize + len - headSize ≡ len = omega arith in
-      let c : judgement l w ≡ judgementOf (r .place) time (judged t r time bytes) = rw same at k in
-      tells-one (Frame time bytes) w out after n (ap (λ (x : Found). itemsIn x s) e) (ap (λ (x : Judgement). x .words) c)
-      (subst (λ (x : Line). Wrote (textOf x) out after n) (ap (λ (x : Judgement). x .line) c) h)
+      tells-one (i len) w out after n (ap (λ (x : Found). itemsIn x s) e) (k .1 ∙ ap (λ m. runBy t r (i m) .words) same)
+      (subst (λ (x : Line). Wrote (textOf x) out after n) (k .0 ∙ ap (λ m. lineOf t r (i m)) same) h)
 
 pub at-hand-as : (f v : Found) (s : List ℕ) → f ≡ v → AtHand f s → AtHand v s
 at-hand-as f v s e l = rw e at l
@@ -164,7 +163,7 @@ module _ (t : Table) (n : ℕ) (st : State) (r : Run) (s space : List ℕ) where
       fedOf t 1 st r s space .more ≡ false
       → let f = fedOf t 1 st r s space in
       fedOf t (suc n) st r s space
-      ≡ behind (f .used) (take (f .count) (f .space))
+      ≡ behindOthers (f .used) (take (f .count) (f .space))
       (fedOf t n (f .state) (run (f .place) (f .words)) (drop (f .used) s) (drop (f .count) (f .space)))
   unfolding fedOf
   fed-goes h =
@@ -178,8 +177,8 @@ module _ (t : Table) (n : ℕ) (st : State) (r : Run) (s space : List ℕ) where
 
 -- ---- moves behind others
 
-behind-behind : (a b : ℕ) (x y : List ℕ) (d : AfterFeed) → behind a x (behind b y d) ≡ behind (a + b) (x ++ y) d
-behind-behind a b x y d =
+behind-twice : (a b : ℕ) (x y : List ℕ) (d : AfterFeed) → behindOthers a x (behindOthers b y d) ≡ behindOthers (a + b) (x ++ y) d
+behind-twice a b x y d =
     rw (length-append x y, add-assoc a b (d .used), add-assoc (length x) (length y) (d .count), append-assoc x y (d .space))
 
 -- one more move, by what the code lends to it: the rest of the bytes, and the rest of the space
@@ -204,8 +203,8 @@ module _ (t : Table) (f : Fed) (w v : Lent) (s out o : List ℕ) (m : Fed) (e : 
       ≡ oneMore t f w s out
   one-more h =
       let size : length (take (f .count) out) ≡ f .count = length-take-le (f .count) out h in
-      let one : feeds (record { state = m .state; place = m .place; used = f .used + m .used; count = f .count + m .count; more = m .more }) v (take (f .count) out ++ o) ≡ behind (f .used) (take (f .count) out) (feeds m v o) = rw size in
-      rw (part-none out (f .count), append-nil o) (one ∙ ap (behind (f .used) (take (f .count) out)) by-itself)
+      let one : feeds (record { state = m .state; place = m .place; used = f .used + m .used; count = f .count + m .count; more = m .more }) v (take (f .count) out ++ o) ≡ behindOthers (f .used) (take (f .count) out) (feeds m v o) = rw size in
+      rw (part-none out (f .count), append-nil o) (one ∙ ap (behindOthers (f .used) (take (f .count) out)) by-itself)
 
 -- ---- the loop of a call
 
@@ -213,7 +212,7 @@ module _ (t : Table) (f : Fed) (w v : Lent) (s out o : List ℕ) (m : Fed) (e : 
 pub record Underway (t : Table) (st : State) (r : Run) (s space : List ℕ) (n : ℕ) (f : Fed) (w : Lent) (left : ℕ) (out : List ℕ) : Type 0 where
   pub same :
       fedOf t n st r s space
-      ≡ behind (f .used) (take (f .count) out) (fedOf t left (f .state) (run (f .place) w) (drop (f .used) s) (drop (f .count) out))
+      ≡ behindOthers (f .used) (take (f .count) out) (fedOf t left (f .state) (run (f .place) w) (drop (f .used) s) (drop (f .count) out))
   pub within : f .used ≤ length s
   pub room : f .count + lineRoom * left ≤ length out
   pub size : length out ≡ length space
@@ -266,17 +265,17 @@ module _ {t : Table} {st : State} {r : Run} {s space : List ℕ} {n : ℕ} {f : 
   goes-on :
       g .more ≡ false
       → fedOf t n st r s space
-      ≡ behind (g .used) (take (g .count) o) (fedOf t (left - 1) (g .state) (run (g .place) v) (drop (g .used) s) (drop (g .count) o))
+      ≡ behindOthers (g .used) (take (g .count) o) (fedOf t (left - 1) (g .state) (run (g .place) v) (drop (g .used) s) (drop (g .count) o))
   goes-on m =
       let a : List ℕ = take (f .count) out in
       let no-more : moved .more ≡ false = sym (ap (λ (x : AfterFeed). x .more) e) ∙ m in
-      let go : AfterFeed → AfterFeed = λ x. behind (x .used) (take (x .count) (x .space)) (fedOf t (left - 1) (x .state) (run (x .place) (x .words)) (drop (x .used) s) (drop (x .count) (x .space))) in
+      let go : AfterFeed → AfterFeed = λ x. behindOthers (x .used) (take (x .count) (x .space)) (fedOf t (left - 1) (x .state) (run (x .place) (x .words)) (drop (x .used) s) (drop (x .count) (x .space))) in
       let rest : AfterFeed = fedOf t (left - 1) (moved .state) (run (moved .place) (moved .words)) (drop (moved .used) (drop (f .used) s)) (drop (moved .count) (moved .space)) in
-      let here : go (oneMore t f w s out) ≡ behind (f .used + moved .used) (a ++ take (moved .count) (moved .space)) rest = rw (take-append-add a (moved .space) (moved .count), drop-append-add a (moved .space) (moved .count), drop-drop (moved .used) (f .used) s) in
+      let here : go (oneMore t f w s out) ≡ behindOthers (f .used + moved .used) (a ++ take (moved .count) (moved .space)) rest = rw (take-append-add a (moved .space) (moved .count), drop-append-add a (moved .space) (moved .count), drop-drop (moved .used) (f .used) s) in
       u .same
-      ∙ (ap (λ k. behind (f .used) a (fedOf t k (f .state) (run (f .place) w) (drop (f .used) s) (drop (f .count) out))) one-left
-      ∙ (ap (behind (f .used) a) (fed-goes t (left - 1) (f .state) (run (f .place) w) (drop (f .used) s) (drop (f .count) out) no-more)
-      ∙ (behind-behind (f .used) (moved .used) a (take (moved .count) (moved .space)) rest ∙ (sym here ∙ ap go (sym e)))))
+      ∙ (ap (λ k. behindOthers (f .used) a (fedOf t k (f .state) (run (f .place) w) (drop (f .used) s) (drop (f .count) out))) one-left
+      ∙ (ap (behindOthers (f .used) a) (fed-goes t (left - 1) (f .state) (run (f .place) w) (drop (f .used) s) (drop (f .count) out) no-more)
+      ∙ (behind-twice (f .used) (moved .used) a (take (moved .count) (moved .space)) rest ∙ (sym here ∙ ap go (sym e)))))
 
   pub underway-next : faultOf t ≡ fault.Good → g .more ≡ false → Underway t st r s space n g v (left - 1) o
   underway-next table m =
@@ -297,8 +296,8 @@ module _ {t : Table} {st : State} {r : Run} {s space : List ℕ} {n : ℕ} {f : 
       e
       ∙ sym
       (u .same
-      ∙ (ap (λ k. behind (f .used) (take (f .count) out) (fedOf t k (f .state) (run (f .place) w) (drop (f .used) s) (drop (f .count) out))) one-left
-      ∙ ap (behind (f .used) (take (f .count) out)) (fed-stops t (left - 1) (f .state) (run (f .place) w) (drop (f .used) s) (drop (f .count) out) more)))
+      ∙ (ap (λ k. behindOthers (f .used) (take (f .count) out) (fedOf t k (f .state) (run (f .place) w) (drop (f .used) s) (drop (f .count) out))) one-left
+      ∙ ap (behindOthers (f .used) (take (f .count) out)) (fed-stops t (left - 1) (f .state) (run (f .place) w) (drop (f .used) s) (drop (f .count) out) more)))
 
 -- no move is left
 pub underway-done :
@@ -308,10 +307,10 @@ pub underway-done :
     → feeds f w out ≡ fedOf t n st r s space
 underway-done {t} {st} {r} {s} {space} {n} {f} {w} {left} {out} u e =
     let size : length (take (f .count) out) ≡ f .count = length-take-le (f .count) out (omega (arith, u .room)) in
-    sym (u .same ∙ (ap (λ k. behind (f .used) (take (f .count) out) (fedOf t k (f .state) (run (f .place) w) (drop (f .used) s) (drop (f .count) out))) e ∙ none size))
+    sym (u .same ∙ (ap (λ k. behindOthers (f .used) (take (f .count) out) (fedOf t k (f .state) (run (f .place) w) (drop (f .used) s) (drop (f .count) out))) e ∙ none size))
   where
     none :
         length (take (f .count) out) ≡ f .count
-        → behind (f .used) (take (f .count) out) (fedOf t 0 (f .state) (run (f .place) w) (drop (f .used) s) (drop (f .count) out))
+        → behindOthers (f .used) (take (f .count) out) (fedOf t 0 (f .state) (run (f .place) w) (drop (f .used) s) (drop (f .count) out))
         ≡ feeds f w out
     none size = rw (fed-none t (f .state) (run (f .place) w) (drop (f .used) s) (drop (f .count) out), size, add-zero (f .used), add-zero (f .count), take-append-drop (f .count) out, u .waits)

@@ -19,12 +19,13 @@ use Rattle.records.specs.Records.{Lent, recordsOf}
 use Rattle.events.specs.Events.{eventRoom}
 use Rattle.steps.specs.Steps.{Arrival, arrival, Outcome, outcomeOf, Stepped, stepped, steppedAs}
 use Rattle.steps.specs.declared.Answer.{Answer}
-use Rattle.firewall.specs.Firewall.{Said, answered, After, judgedAs, afterFrame, judgeOf}
+use Rattle.firewall.specs.Firewall.{Said, answered, badFrame, After, says, judgedAs, afterFrame, judgeOf}
 use Rattle.theorems.specs.Run.{Good, Judges}
 use Rattle.theorems.proofs.Calls.{judge-good, judge-shows}
 use Rattle.lines.specs.declared.Line.{Line}
 use Rattle.lines.specs.declared.Line.the-variants as line
-use Rattle.recording.specs.Run.{Run, begun, judged, eventNumber, Judgement, judgement, judgementOf}
+use Rattle.capture.specs.Capture.{Frame}
+use Rattle.recording.specs.Run.{Run, begun, judged, eventNumber, lineAs, lineOf, runBy}
 
 -- the event space that each frame's call is given
 abbrev pub blank : List ℕ
@@ -35,21 +36,30 @@ blank-room = omega arith
 
 -- v are the words as the frame is judged, which the first record begins
 module _ (t : Table) (r : Run) (time : ℕ) (bytes : List ℕ) (v : Lent) (table : faultOf t ≡ fault.Good) (records : Good t v) (began : v ≡ begun t r time) where
+  -- a line and words are the frame's
+  abbrev OfFrame : Line → Lent → Type 0
+  OfFrame l w = (l ≡ lineOf t r (Frame time bytes)) × (w ≡ runBy t r (Frame time bytes) .words)
+
+  -- as they are the call's
+  of-call : (x : After) → judged t r time bytes ≡ x → OfFrame (lineAs (r .place) time (x .said) (x .space)) (x .words)
+  unfolding lineOf runBy
+  of-call x e = (rw e, rw e)
+
   -- a frame that is refused
   pub frame-refused :
       (f : FrameRefusal) (n : ℕ) → shownOf bytes ≡ shown.Refused f → n ≡ refusalNumber f
-      → judgement (line.Refused (r .place) time n) v ≡ judgementOf (r .place) time (judged t r time bytes)
+      → OfFrame (line.Refused (r .place) time n) v
   unfolding judged
-  frame-refused f n e k = rw (← began, judge-good t v (arrival time bytes) blank table (records .good), e, k)
+  frame-refused f n e k = rw k (of-call (says (badFrame f) v blank) (rw (← began, judge-good t v (arrival time bytes) blank table (records .good), e)))
 
   -- one that is judged
   pub frame-judged :
       (l : Layers) (a : Answer) (w : Lent) (space : List ℕ) (e : ℕ) → shownOf bytes ≡ shown.Shows l
       → stepped a w space ≡ steppedAs (outcomeOf t (recordsOf v) time (seen bytes l)) blank
       → e ≡ eventNumber (a .length) space
-      → judgement (line.Judged (r .place) time (a .verdict .number) (a .rule) e) w ≡ judgementOf (r .place) time (judged t r time bytes)
+      → OfFrame (line.Judged (r .place) time (a .verdict .number) (a .rule) e) w
   unfolding judged
   frame-judged l a w space e q s k =
       let judges : Judges (arrival time bytes) blank l = record { shows = q; room = blank-room } in
-      rw (← began, judge-shows t v (arrival time bytes) blank l table (records .good) judges, k)
-      (ap (λ (x : Stepped). judgement (line.Judged (r .place) time (x .verdict) (x .rule) (eventNumber (x .length) (x .space))) (x .words)) s)
+      let call : Stepped → After = λ x. says (answered (x .verdict) (x .rule) (x .length)) (x .words) (x .space) in
+      rw k (of-call (call (stepped a w space)) (rw (← began, judge-shows t v (arrival time bytes) blank l table (records .good) judges) (sym (ap call s))))

@@ -7,13 +7,13 @@ use Rattle.numbers.specs.Lists.{joined, ends, said}
 use Rattle.numbers.proofs.Elements.{ends-append, said-append}
 use Rattle.table.specs.declared.Table.{Table}
 use Rattle.capture.specs.Capture.{Item, itemsOf}
-use Rattle.capture.specs.Parts.{Kept, kept, Happening, goOn, finds, endOf, endItems, atEnd, allOf, asFound}
+use Rattle.capture.specs.Parts.{Kept, kept, Happening, goOn, finds, AtRest, endOf, endItems, atEnd, allOf, asFound}
 use Rattle.capture.specs.declared.End.{End}
 use Rattle.capture.specs.declared.End.the-variants as end
 use Rattle.capture.specs.declared.State.the-variants as state
 use Rattle.capture.proofs.Whole.{as-the-whole}
 use Rattle.recording.specs.Run.{Run, run, lineOf, runBy, linesOf, textOfAll, endLines, printed}
-use Rattle.recording.specs.ByParts.{Going, atStart, advance, writes, AtRest, endText, ByParts, WhateverWords}
+use Rattle.recording.specs.ByParts.{Going, atStart, advance, writes, ByParts, WhateverWords}
 use Rattle.recording.proofs.OnRun.{text-append, lines-found, lines-alike}
 
 abbrev going : Kept → Run → Going
@@ -57,7 +57,7 @@ by-parts t w es table rest =
     let r : Run = run 0 w in
     let z : Going = ends (advance t) (atStart w) es in
     let same : z ≡ going (ends goOn k es) (ends (runBy t) r (found k es)) = ends-going t k r es in
-    let whole : found k es ++ atEnd (ends goOn k es) ≡ map asFound (itemsOf (allOf es)) = as-the-whole es (subst AtRest same rest) in
+    let whole : found k es ++ atEnd (ends goOn k es) ≡ map asFound (itemsOf (allOf es)) = as-the-whole es (subst (λ (x : Going). AtRest (x .reader)) same rest) in
     rw (texts-going t k r es, same, end-lines t (ends (runBy t) r (found k es)) (endOf (ends goOn k es .state) (length (ends goOn k es .rest))), ← text-append (linesOf t r (found k es)) (linesOf t (ends (runBy t) r (found k es)) (atEnd (ends goOn k es))), ← said-append (runBy t) (lineOf t) r (found k es) (atEnd (ends goOn k es)), whole)
     (ap textOfAll (lines-found t table r (itemsOf (allOf es)) (λ h. absurd (h refl))))
 

@@ -2,17 +2,16 @@
 -- Assumes nothing.
 use Prim.Native.Nat.{ℕ}
 use mathlib.Core.Path.{_≡_}
-use mathlib.Core.Bool.{true}
-use mathlib.Core.List.{List, [], _∷_, _++_}
+use mathlib.Core.List.{List, [], _++_}
 use lib.ListN.{length}
 use Rattle.numbers.specs.Lists.{joined, ends, said}
 use Rattle.table.specs.declared.Table.{Table}
 use Rattle.faults.specs.declared.Fault.the-variants as fault
 use Rattle.faults.specs.Faults.{faultOf}
 use Rattle.records.specs.Records.{Lent}
-use Rattle.capture.specs.Parts.{Kept, kept, Happening, goOn, finds, endOf, allOf, moveOf}
+use Rattle.capture.specs.Parts.{Kept, kept, AtRest, Happening, goOn, finds, allOf}
 use Rattle.capture.specs.declared.State.the-variants as state
-use Rattle.recording.specs.Run.{Run, run, runBy, linesOf, textOfAll, endLines, printed}
+use Rattle.recording.specs.Run.{Run, run, runBy, textFrom, endText, printed}
 
 -- between two calls: what the reader keeps, and the run
 pub record Going : Type 0 where
@@ -29,22 +28,14 @@ advance t x e = record { reader = goOn (x .reader) e; run = ends (runBy t) (x .r
 
 -- what a call writes
 unfoldable pub writes : Table → Going → Happening → List ℕ
-writes t x e = textOfAll (linesOf t (x .run) (finds (x .reader) e))
-
--- no call could find more
-abbrev pub AtRest : Going → Type 0
-AtRest x = moveOf (x .reader .state) (x .reader .rest) .more ≡ true
-
--- what the end adds
-abbrev pub endText : Kept → List ℕ
-endText k = textOfAll (endLines (endOf (k .state) (length (k .rest))))
+writes t x e = textFrom t (x .run) (finds (x .reader) e)
 
 -- THE THEOREM: for every good table, every capture and every way in which it comes by parts and the calls are made, whatever words the records stand in,
--- what the calls write and what the end adds are together what is printed of the whole
+-- once no call could find more, what the calls wrote and what the end adds are together what is printed of the whole
 abbrev pub ByParts : Type 0
 ByParts =
-    (t : Table) (w : Lent) (es : List Happening) → faultOf t ≡ fault.Good → AtRest (ends (advance t) (atStart w) es)
-    → joined (said (advance t) (writes t) (atStart w) es) ++ endText (ends (advance t) (atStart w) es .reader) ≡ printed t w (allOf es)
+    (t : Table) (w : Lent) (es : List Happening) → let x = ends (advance t) (atStart w) es .reader in faultOf t ≡ fault.Good → AtRest x
+    → joined (said (advance t) (writes t) (atStart w) es) ++ endText (x .state) (length (x .rest)) ≡ printed t w (allOf es)
 
 -- "fresh at the first record's time": what stood in the words before makes no difference
 abbrev pub WhateverWords : Type 0

@@ -16,7 +16,7 @@ use Rattle.capture.specs.declared.State.{State}
 use Rattle.capture.specs.declared.Found.{Found}
 use Rattle.capture.specs.declared.Found.the-variants as found
 use Rattle.lines.specs.Lines.{lineRoom}
-use Rattle.recording.specs.Run.{Run, run, Begun, runBy, linesOf, textOfAll}
+use Rattle.recording.specs.Run.{Run, run, Begun, runBy, textFrom}
 use Rattle.recording.specs.declared.Fed.{Fed}
 
 -- what a call of at most n moves asks: a good table, good records once one has begun them, and that the places of its records fit into 64 bits
@@ -34,7 +34,7 @@ placeAfter place (found.Frame time len) = suc place
 
 -- what is told of items from r on: the words after them, and their lines at the start of the space
 abbrev pub Tells : Table → Run → List Item → Lent → List ℕ → List ℕ → ℕ → Type 0
-Tells t r items w space after n = (w ≡ ends (runBy t) r items .words) × Wrote (textOfAll (linesOf t r items)) space after n
+Tells t r items w space after n = (w ≡ ends (runBy t) r items .words) × Wrote (textFrom t r items) space after n
 
 -- so many lines have room in a space, whatever they are
 abbrev pub roomFor : List ℕ → ℕ
@@ -67,7 +67,7 @@ feeds r w space = record {
 abbrev pub afterMoves : Table → Run → Moves → List ℕ → AfterFeed
 afterMoves t r m space =
     let x = ends (runBy t) r (m .items) in
-    let text = textOfAll (linesOf t r (m .items)) in
+    let text = textFrom t r (m .items) in
     record {
       state = m .state;
       place = x .place;
@@ -84,8 +84,8 @@ fedOf t n st r s space = afterMoves t r (movesOf n st s) space
 
 -- ---- moves behind others, which used `at` bytes and wrote a
 
-abbrev pub behind : ℕ → List ℕ → AfterFeed → AfterFeed
-behind at a x = record {
+abbrev pub behindOthers : ℕ → List ℕ → AfterFeed → AfterFeed
+behindOthers at a x = record {
   state = x .state;
   place = x .place;
   used = at + x .used;
@@ -98,5 +98,5 @@ behind at a x = record {
 -- one more, behind those of a call that left f
 abbrev pub oneMore : Table → Fed → Lent → List ℕ → List ℕ → AfterFeed
 oneMore t f w s space =
-    behind (f .used) (take (f .count) space)
+    behindOthers (f .used) (take (f .count) space)
     (fedOf t 1 (f .state) (run (f .place) w) (drop (f .used) s) (drop (f .count) space))

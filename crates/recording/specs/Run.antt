@@ -14,6 +14,8 @@ use Rattle.steps.specs.Steps.{arrival}
 use Rattle.firewall.specs.Firewall.{Said, refused, done, answered, After, startOf, judgeOf}
 use Rattle.theorems.specs.Run.{Good}
 use Rattle.capture.specs.Capture.{Item, BadHeader, Cut, Refused, Frame, itemsOf}
+use Rattle.capture.specs.Parts.{endOf}
+use Rattle.capture.specs.declared.State.{State}
 use Rattle.capture.specs.declared.End.{End}
 use Rattle.capture.specs.declared.End.the-variants as end
 use Rattle.lines.specs.Lines.{textOf}
@@ -66,9 +68,13 @@ runBy t r (Frame time bytes) = run (suc (r .place)) (judged t r time bytes .word
 abbrev pub linesOf : Table → Run → List Item → List Line
 linesOf t r items = said (runBy t) (lineOf t) r items
 
--- their bytes
+-- the bytes of lines
 unfoldable pub textOfAll : List Line → List ℕ
 textOfAll ls = joined (map textOf ls)
+
+-- those of items
+abbrev pub textFrom : Table → Run → List Item → List ℕ
+textFrom t r items = textOfAll (linesOf t r items)
 
 -- the line that the end adds, if any
 abbrev pub endLines : End → List Line
@@ -76,24 +82,15 @@ endLines end.Whole = []
 endLines end.BadHeader = line.BadHeader ∷ []
 endLines end.Cut = line.Cut ∷ []
 
+-- its bytes, in a state of the reader where n bytes are not used
+abbrev pub endText : State → ℕ → List ℕ
+endText st n = textOfAll (endLines (endOf st n))
+
 -- THE DEFINITION: what is printed of the capture s, judged under t; w are the words that the records stand in
 unfoldable pub printed : Table → Lent → List ℕ → List ℕ
-printed t w s = textOfAll (linesOf t (run 0 w) (itemsOf s))
+printed t w s = textFrom t (run 0 w) (itemsOf s)
 
--- ---- what the code of one record promises and asks
-
--- the line of a frame, and the words that its call leaves
-pub record Judgement : Type 0 where
-  pub line : Line
-  pub words : Lent
-
--- made of its parts
-abbrev pub judgement : Line → Lent → Judgement
-judgement l w = record { line = l; words = w }
-
--- by what the call says and leaves
-abbrev pub judgementOf : ℕ → ℕ → After → Judgement
-judgementOf place time x = judgement (lineAs place time (x .said) (x .space)) (x .words)
+-- ---- what the code of one record asks
 
 -- where a record has begun them they are good; before the first one nothing is asked of the words
 abbrev pub Begun : Table → Run → Type 0

@@ -4,7 +4,8 @@ ghost use Rattle.faults.specs.declared.Fault.the-variants as fault;
 ghost use Rattle.faults.specs.Faults.{faultOf};
 ghost use Rattle.table.specs.Words.{tableIn};
 ghost use Rattle.records.specs.Records.{lent, before, after};
-ghost use Rattle.recording.specs.Run.{run, begun, Begun, judged, eventNumber, judgement, judgementOf};
+ghost use Rattle.capture.specs.Capture.{Frame};
+ghost use Rattle.recording.specs.Run.{run, begun, Begun, eventNumber, lineOf, runBy};
 use events::ROOM;
 use layers::Shown;
 use lines::Line;
@@ -53,9 +54,10 @@ pub(crate) fn judge(
 ) -> Line
     requires table { ⌜ faultOf (tableIn (now t)) ≡ fault.Good ⌝ }
     requires records { ⌜ Begun (tableIn (now t)) (run place (lent (now head) (now counts) (now places))) ⌝ }
-    ensures { λ r. ⌜
-        judgement r (after head counts places)
-        ≡ judgementOf place time (judged (tableIn (now (t .entry))) (run place (before head counts places)) time (now (frame .entry)))
+    ensures line { λ r. ⌜ r ≡ lineOf (tableIn (now (t .entry))) (run place (before head counts places)) (Frame time (now (frame .entry))) ⌝ }
+    ensures words { λ r. ⌜
+        after head counts places
+        ≡ runBy (tableIn (now (t .entry))) (run place (before head counts places)) (Frame time (now (frame .entry))) .words
         ⌝ }
 {
     begin(t, place, time, head, counts, places);

@@ -1,2 +1,3 @@
 pub mod OnPosition
 pub mod OnTable
+pub mod Printed

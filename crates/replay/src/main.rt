@@ -1,6 +1,6 @@
 // Judges a capture on standard input under table T: a line a record with place, time in ms, verdict, rule and event.
 ghost use mathlib.Core.Path.{_≡_};
-ghost use mathlib.Core.Bool.{true};
+ghost use mathlib.Core.Bool.{true, false};
 ghost use Prim.Native.Nat.{_+_, _≤_};
 ghost use lib.ListN.{length};
 ghost use Rattle.numbers.specs.Lists.{Wrote};
@@ -18,8 +18,11 @@ ghost use Rattle.replay.specs.Position.{
   goingIn,
   Sound,
   arrivedAs,
+  stoppedAs,
   lastText,
   isDone,
+  isOver,
+  turnText,
   Turned,
   Reached,
 };
@@ -46,64 +49,53 @@ use verdicts::COUNT_WORDS;
 // Nothing says that an input ends, so the turns are counted down from a number that no run uses up.
 const TURNS: u64 = 18014398509481984;
 
-// Between two turns: the bytes at hand are those of the buffer from `at` to `end`; `more` asks for others, `over` ends the run.
+// Between two turns: the bytes at hand are those of the buffer from `at` to `end`; `more` asks for others. What is to be printed are the first
+// `count` bytes of the output. `ended` says that the capture is at its end, `failed` that reading or printing failed; each ends the run.
 pub struct Position {
     pub state: State,
     pub place: u64,
     pub at: usize,
     pub end: usize,
     pub more: bool,
-    pub over: bool,
-}
-
-// What one read brought: so many bytes, none at the end of the input or where it failed.
-pub struct Got {
     pub count: usize,
+    pub ended: bool,
     pub failed: bool,
 }
 
-fn read_part(part: &mut [u8]) -> Got
-    ensures { λ r. ⌜ r .count ≤ length (now (part .entry)) ⌝ }
+// The line that the end of the capture adds.
+fn last_text(st: State, kept: usize, ended: bool, out: &mut [u8]) -> usize
+    requires { ⌜ length (now out) ≡ bufferSize ⌝ }
+    ensures { λ r. ⌜ Wrote (lastText st kept ended) (now (out .entry)) (now (out .exit)) r ⌝ }
 {
-    let got = libc::read(STDIN_FILENO, part);
-    Got {
-        count: io::count(got, part),
-        failed: got < 0,
+    if ended {
+        return finish(end_of(st, kept), out);
     }
+    0
 }
 
-fn arrived(p: Position, kept: usize, got: Got) -> Position
-    requires { ⌜ kept + got .count ≤ bufferSize ⌝ }
-    ensures { λ r. ⌜ r ≡ arrivedAs p kept got ⌝ }
+// The position after a read behind the bytes that were kept, by what it answered; a failed one adds no line.
+fn arrived(p: Position, kept: usize, got: isize, buf: &[u8], out: &mut [u8]) -> Position
+    requires kept { ⌜ kept ≤ bufferSize ⌝ }
+    requires buffer { ⌜ length (now buf) ≡ bufferSize ⌝ }
+    requires room { ⌜ length (now out) ≡ bufferSize ⌝ }
+    ensures position { λ r. ⌜ r ≡ arrivedAs p kept got ⌝ }
+    ensures text { λ r. ⌜ Wrote (lastText (p .state) kept (r .ended)) (now (out .entry)) (now (out .exit)) (r .count) ⌝ }
 {
     let state = p.state;
-    let nothing = got.count == 0;
+    let came = io::count(got, &buf[kept..]);
+    let end = kept + came;
+    let ended = got == 0;
+    let count = last_text(state, kept, ended, out);
     Position {
         state,
         place: p.place,
         at: 0,
-        end: kept + got.count,
-        more: nothing,
-        over: nothing,
+        end,
+        more: came == 0,
+        count,
+        ended,
+        failed: got < 0,
     }
-}
-
-// The line that the end of the input adds; a read that failed adds none.
-fn last_text(st: State, kept: usize, failed: bool, out: &mut [u8]) -> usize
-    requires { ⌜ length (now out) ≡ bufferSize ⌝ }
-    ensures { λ r. ⌜ Wrote (lastText st kept failed) (now (out .entry)) (now (out .exit)) r ⌝ }
-{
-    if failed {
-        return 0;
-    }
-    finish(end_of(st, kept), out)
-}
-
-fn close(st: State, kept: usize, failed: bool, out: &mut [u8])
-    requires { ⌜ length (now out) ≡ bufferSize ⌝ }
-{
-    let count = last_text(st, kept, failed, out);
-    io::write_all(STDOUT_FILENO, &out[..count]);
 }
 
 // Keeps what was not used, and reads behind it.
@@ -113,19 +105,17 @@ fn refill(p: Position, buf: &mut [u8], out: &mut [u8]) -> Position
     requires buffer { ⌜ length (now buf) ≡ bufferSize ⌝ }
     requires room { ⌜ length (now out) ≡ bufferSize ⌝ }
     ensures sound { λ r. ⌜ Sound r (now (buf .exit)) ⌝ }
-    ensures turned { λ r. ⌜ ((t : Table) (w : Lent) → Turned t p (now (buf .entry)) w r (now (buf .exit)) w) ⌝ }
+    ensures turned { λ r. ⌜
+        ((t : Table) (w : Lent)
+        → Turned t (goingIn p (now (buf .entry)) w) (goingIn r (now (buf .exit)) w) r (now (out .entry)) (now (out .exit)))
+        ⌝ }
     ensures place { λ r. ⌜ r .place ≡ p .place ⌝ }
 {
     let at = p.at;
     let end = p.end;
-    let state = p.state;
     let kept = keep(buf, at, end);
-    let got = read_part(&mut buf[kept..]);
-    let q = arrived(p, kept, got);
-    if q.over {
-        close(state, kept, got.failed, out);
-    }
-    q
+    let got = libc::read(STDIN_FILENO, &mut buf[kept..]);
+    arrived(p, kept, got, buf, out)
 }
 
 fn is_done(st: State) -> bool
@@ -144,7 +134,7 @@ fn is_done(st: State) -> bool
     }
 }
 
-// Judges what is whole in the bytes at hand and prints it. A bad header and an output that is closed end the run.
+// Judges what is whole in the bytes at hand. Behind a bad header nothing is to be found.
 fn judge_on(
     t: &TableWords,
     p: Position,
@@ -163,6 +153,10 @@ fn judge_on(
         goingIn r (now (buf .entry)) (after head counts places)
         ≡ advance (tableIn (now (t .entry))) (goingIn p (now (buf .entry)) (before head counts places)) (calls mostMoves)
         ⌝ }
+    ensures text { λ r. ⌜
+        Wrote (turnText (tableIn (now (t .entry))) (goingIn p (now (buf .entry)) (before head counts places)) (calls mostMoves) (r .ended))
+        (now (out .entry)) (now (out .exit)) (r .count)
+        ⌝ }
     ensures places { λ r. ⌜ r .place ≤ p .place + mostMoves ⌝ }
     ensures records { λ r. ⌜ Begun (tableIn (now (t .entry))) (run (r .place) (after head counts places)) ⌝ }
 {
@@ -170,8 +164,6 @@ fn judge_on(
     let end = p.end;
     let state = p.state;
     let f = feed(t, state, p.place, &buf[at..end], head, counts, places, out);
-    let count = f.count;
-    let printed = io::write_all(STDOUT_FILENO, &out[..count]);
     let next = f.state;
     let used = at + f.used;
     Position {
@@ -180,10 +172,13 @@ fn judge_on(
         at: used,
         end,
         more: f.more,
-        over: !printed | is_done(next),
+        count: f.count,
+        ended: is_done(next),
+        failed: false,
     }
 }
 
+// One turn of a run that is not over: a part comes, or a call is made, and what is to be printed of it stands in `out`.
 fn turn(
     t: &TableWords,
     p: Position,
@@ -193,13 +188,15 @@ fn turn(
     buf: &mut [u8],
     out: &mut [u8],
 ) -> Position
+    requires goes { ⌜ isOver p ≡ false ⌝ }
     requires sound { ⌜ Sound p (now buf) ⌝ }
     requires buffer { ⌜ length (now buf) ≡ bufferSize ⌝ }
     requires room { ⌜ length (now out) ≡ bufferSize ⌝ }
     requires ready { ⌜ Ready (tableIn (now t)) (lent (now head) (now counts) (now places)) (p .place) mostMoves ⌝ }
     ensures sound { λ r. ⌜ Sound r (now (buf .exit)) ⌝ }
     ensures turned { λ r. ⌜
-        Turned (tableIn (now (t .entry))) p (now (buf .entry)) (before head counts places) r (now (buf .exit)) (after head counts places)
+        Turned (tableIn (now (t .entry))) (goingIn p (now (buf .entry)) (before head counts places))
+        (goingIn r (now (buf .exit)) (after head counts places)) r (now (out .entry)) (now (out .exit))
         ⌝ }
     ensures places { λ r. ⌜ r .place ≤ p .place + mostMoves ⌝ }
     ensures records { λ r. ⌜ Begun (tableIn (now (t .entry))) (run (r .place) (after head counts places)) ⌝ }
@@ -210,7 +207,30 @@ fn turn(
     judge_on(t, p, head, counts, places, buf, out)
 }
 
-// Turn after turn from the start: all that happens is that parts come and calls are made, so what is printed is what `ByParts` says.
+fn is_over(p: Position) -> bool
+    ensures { λ r. ⌜ r ≡ isOver p ⌝ }
+{
+    p.ended | p.failed
+}
+
+// A run whose output is closed.
+fn stopped(p: Position) -> Position
+    ensures { λ r. ⌜ r ≡ stoppedAs p ⌝ }
+{
+    let state = p.state;
+    Position {
+        state,
+        place: p.place,
+        at: p.at,
+        end: p.end,
+        more: p.more,
+        count: p.count,
+        ended: p.ended,
+        failed: true,
+    }
+}
+
+// Turn after turn from the start to the end: all that happens is that parts come and calls are made (`ByParts`), and what each turn left is printed.
 fn replay(
     t: &TableWords,
     head: &mut Head,
@@ -230,12 +250,19 @@ fn replay(
         at: 0,
         end: 0,
         more: true,
-        over: false,
+        count: 0,
+        ended: false,
+        failed: false,
     };
     let mut turns = TURNS;
     while 0 < turns {
         p = turn(t, p, head, counts, places, buf, out);
-        if p.over {
+        let count = p.count;
+        let printed = io::write_all(STDOUT_FILENO, &out[..count]);
+        if !printed {
+            return stopped(p);
+        }
+        if is_over(p) {
             return p;
         }
         turns -= 1;

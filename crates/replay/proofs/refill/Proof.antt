@@ -1,7 +1,9 @@
-use Rattle.replay.proofs.OnPosition.{keep-count, keep-size, came-fits, came-sound, came-turned}
-use Rattle.replay.specs.declared.Position.{Position}
-use mathlib.Core.Path.{ap}
+use mathlib.Core.Path.{ap, _∙_}
 use native.Mathlib.Omega.{arith}
+use mir.Syntax.{w64}
+use mir.Val.{ofZ, toZ}
+use Rattle.replay.specs.declared.Position.{Position}
+use Rattle.replay.proofs.OnPosition.{keep-within, keep-size, came-sound, came-turned}
 use borrow.Author.Needs.{needs}
 use Rattle.replay.proofs.refill.Statement.{statement}
 use Rattle.replay.proofs.refill.Tie as tie
@@ -9,23 +11,23 @@ use Rattle.replay.proofs.refill.Tie as tie
 keep-requires : tie.Need-keep-requires
 keep-requires c κs = search needs
 
-sub-read-part : tie.Need-sub-read-part
-sub-read-part c = omega (arith, keep-count (c .before .before .before .before .before .before .args .p) (c .before .before .before .before .before .before .args .buf .now) (c .before .before .before .before .before .before .pre .0) (c .before .before .before .before .before .before .pre .1 .1 .0) _ _ (c .before .before .keep .ensures), keep-size (c .before .before .before .before .before .before .args .p) (c .before .before .before .before .before .before .args .buf .now) (c .before .before .before .before .before .before .pre .0) (c .before .before .before .before .before .before .pre .1 .1 .0) _ _ (c .before .before .keep .ensures), c .before .before .before .before .before .before .pre .0 .inside)
+sub-read : tie.Need-sub-read
+sub-read c = let a = c .before .before .before .before .before .before in keep-within (a .args .p) (a .args .buf .now) (a .pre .0) (a .pre .1 .1 .0) _ _ (c .before .before .keep .ensures)
 
-part-read-part-start : tie.Need-part-read-part-start
-part-read-part-start c = omega (arith, keep-count (c .before .before .before .before .before .before .args .p) (c .before .before .before .before .before .before .args .buf .now) (c .before .before .before .before .before .before .pre .0) (c .before .before .before .before .before .before .pre .1 .1 .0) _ _ (c .before .before .keep .ensures), keep-size (c .before .before .before .before .before .before .args .p) (c .before .before .before .before .before .before .args .buf .now) (c .before .before .before .before .before .before .pre .0) (c .before .before .before .before .before .before .pre .1 .1 .0) _ _ (c .before .before .keep .ensures), c .before .before .before .before .before .before .pre .0 .inside)
+part-read-start : tie.Need-part-read-start
+part-read-start c = let a = c .before .before .before .before .before .before in omega (arith, keep-within (a .args .p) (a .args .buf .now) (a .pre .0) (a .pre .1 .1 .0) _ _ (c .before .before .keep .ensures))
 
-part-read-part-end : tie.Need-part-read-part-end
-part-read-part-end c = search needs
+part-read-end : tie.Need-part-read-end
+part-read-end c = search needs
 
-read-part-requires : tie.Need-read-part-requires
-read-part-requires c κs = search needs
+read-requires : tie.Need-read-requires
+read-requires c κs = search needs
 
 arrived-requires : tie.Need-arrived-requires
-arrived-requires c κs = came-fits (c .before .before .before .before .before .before .before .before .before .before .args .p) (c .before .before .before .before .before .before .before .before .before .before .args .buf .now) (c .before .before .before .before .before .before .before .before .before .before .pre .0) (c .before .before .before .before .before .before .before .before .before .before .pre .1 .1 .0) _ _ (c .before .before .before .before .before .before .keep .ensures) _ (c .before .before .read-part .ensures)
-
-close-requires : tie.Need-close-requires
-close-requires c κs = search needs
+arrived-requires c κs =
+    let a = c .before .before .before .before .before .before .before .before .before .before .before .before in
+    let wrote = c .before .before .before .before .before .before .before .before .keep .ensures in
+    (omega (arith, keep-within (a .args .p) (a .args .buf .now) (a .pre .0) (a .pre .1 .1 .0) _ _ wrote, keep-size (a .args .p) (a .args .buf .now) (a .pre .0) (a .pre .1 .1 .0) _ _ wrote), ((search needs) ∙ a .pre .1 .1 .0, a .pre .1 .1 .1))
 
 same-length : tie.Need-same-length
 same-length c = search needs
@@ -34,29 +36,23 @@ same-length-2 : tie.Need-same-length-2
 same-length-2 c = search needs
 
 returns : tie.Need-returns
-returns c = let e = c .before .before .before .before .before .arrived .ensures in
-    (came-sound (c .before .before .before .before .before .before .before .before .before .before .before .before .before .before .before .before .args .p) (c .before .before .before .before .before .before .before .before .before .before .before .before .before .before .before .before .args .buf .now) (c .before .before .before .before .before .before .before .before .before .before .before .before .before .before .before .before .pre .0) (c .before .before .before .before .before .before .before .before .before .before .before .before .before .before .before .before .pre .1 .1 .0) _ _ (c .before .before .before .before .before .before .before .before .before .before .before .before .keep .ensures) _ (c .before .before .before .before .before .before .before .before .read-part .result) _ e (c .before .before .before .before .before .before .before .before .before .before .before .before .before .before .before .before .pre .1 .0) (came-fits (c .before .before .before .before .before .before .before .before .before .before .before .before .before .before .before .before .args .p) (c .before .before .before .before .before .before .before .before .before .before .before .before .before .before .before .before .args .buf .now) (c .before .before .before .before .before .before .before .before .before .before .before .before .before .before .before .before .pre .0) (c .before .before .before .before .before .before .before .before .before .before .before .before .before .before .before .before .pre .1 .1 .0) _ _ (c .before .before .before .before .before .before .before .before .before .before .before .before .keep .ensures) _ (c .before .before .before .before .before .before .before .before .read-part .ensures)), (came-turned (c .before .before .before .before .before .before .before .before .before .before .before .before .before .before .before .before .args .p) (c .before .before .before .before .before .before .before .before .before .before .before .before .before .before .before .before .args .buf .now) (c .before .before .before .before .before .before .before .before .before .before .before .before .before .before .before .before .pre .0) (c .before .before .before .before .before .before .before .before .before .before .before .before .before .before .before .before .pre .1 .1 .0) _ _ (c .before .before .before .before .before .before .before .before .before .before .before .before .keep .ensures) _ (c .before .before .before .before .before .before .before .before .read-part .result) _ e, ap (λ (q : Position). q .place) e))
-
-same-length-3 : tie.Need-same-length-3
-same-length-3 c = search needs
-
-returns-2 : tie.Need-returns-2
-returns-2 c = let e = c .before .arrived .ensures in
-    (came-sound (c .before .before .before .before .before .before .before .before .before .before .before .before .args .p) (c .before .before .before .before .before .before .before .before .before .before .before .before .args .buf .now) (c .before .before .before .before .before .before .before .before .before .before .before .before .pre .0) (c .before .before .before .before .before .before .before .before .before .before .before .before .pre .1 .1 .0) _ _ (c .before .before .before .before .before .before .before .before .keep .ensures) _ (c .before .before .before .before .read-part .result) _ e (c .before .before .before .before .before .before .before .before .before .before .before .before .pre .1 .0) (came-fits (c .before .before .before .before .before .before .before .before .before .before .before .before .args .p) (c .before .before .before .before .before .before .before .before .before .before .before .before .args .buf .now) (c .before .before .before .before .before .before .before .before .before .before .before .before .pre .0) (c .before .before .before .before .before .before .before .before .before .before .before .before .pre .1 .1 .0) _ _ (c .before .before .before .before .before .before .before .before .keep .ensures) _ (c .before .before .before .before .read-part .ensures)), (came-turned (c .before .before .before .before .before .before .before .before .before .before .before .before .args .p) (c .before .before .before .before .before .before .before .before .before .before .before .before .args .buf .now) (c .before .before .before .before .before .before .before .before .before .before .before .before .pre .0) (c .before .before .before .before .before .before .before .before .before .before .before .before .pre .1 .1 .0) _ _ (c .before .before .before .before .before .before .before .before .keep .ensures) _ (c .before .before .before .before .read-part .result) _ e, ap (λ (q : Position). q .place) e))
+returns c =
+    let a = c .before .before .before .before .before .before .before .before .before .before .before .before .before .before .before in
+    let wrote = c .before .before .before .before .before .before .before .before .before .before .before .keep .ensures in
+    let got = toZ w64 (ofZ w64 (c .before .before .before .before .before .before .before .read .result)) in
+    let e = c .before .before .arrived .ensures in
+    (came-sound (a .args .p) (a .args .buf .now) (a .pre .0) (a .pre .1 .1 .0) _ _ wrote _ got _ (e .0) (a .pre .1 .0), ((λ t w. came-turned (a .args .p) (a .args .buf .now) (a .pre .0) (a .pre .1 .1 .0) _ _ wrote _ got _ (e .0) t w _ _ (e .1)), ap (λ (q : Position). q .place) (e .0)))
 
 pub refill-spec : {M : Type 1} → statement M
 refill-spec =
     tie.close
     (tie.spec
     keep-requires
-    sub-read-part
-    part-read-part-start
-    part-read-part-end
-    read-part-requires
+    sub-read
+    part-read-start
+    part-read-end
+    read-requires
     arrived-requires
-    close-requires
     same-length
     same-length-2
-    returns
-    same-length-3
-    returns-2)
+    returns)

@@ -18,7 +18,7 @@ same-length-2 c = search needs
 returns : tie.Need-returns
 returns c = let e = c .before .before .before .before .refill .ensures in
     let a = c .before .before .before .before .before .before .before .before .before .before in
-    (e .0, (e .1 .0 _ _, (omega (arith, e .1 .1), begun-same _ _ _ _ (e .1 .1) (a .pre .1 .1 .1 .records))))
+    (e .0, (e .1 .0 _ _, (omega (arith, e .1 .1), begun-same _ _ _ _ (e .1 .1) (a .pre .1 .1 .1 .1 .records))))
 
 judge-on-requires : tie.Need-judge-on-requires
 judge-on-requires c κs = search needs
@@ -31,7 +31,7 @@ same-length-4 c = search needs
 
 returns-2 : tie.Need-returns-2
 returns-2 c = let e = c .before .before .judge-on .ensures in
-    (e .0, (record { happened = calls mostMoves; same = e .1 .0 }, (e .1 .1 .0, e .1 .1 .1)))
+    (e .0, (record { happened = calls mostMoves; same = e .1 .0; text = e .1 .1 .0 }, e .1 .1 .1))
 
 pub turn-spec : {M : Type 1} → statement M
 turn-spec =
