@@ -1,3 +1,4 @@
 pub mod OnPosition
 pub mod OnTable
+pub mod OnTurns
 pub mod Printed

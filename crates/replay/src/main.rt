@@ -1,30 +1,28 @@
-// Judges a capture on standard input under table T: a line a record with place, time in ms, verdict, rule and event.
+// Judges a capture on standard input under table T and prints a line a record: place, time in ms, verdict, rule and event, or its refusal.
 ghost use mathlib.Core.Path.{_≡_};
-ghost use mathlib.Core.Bool.{true, false};
-ghost use Prim.Native.Nat.{_+_, _≤_};
+ghost use mathlib.Core.Bool.{true};
+ghost use Prim.Native.Nat.{_+_, _≤_, _<_};
 ghost use lib.ListN.{length};
 ghost use Rattle.numbers.specs.Lists.{Wrote};
-ghost use Rattle.table.specs.declared.Table.{Table};
 ghost use Rattle.table.specs.Words.{tableIn};
 ghost use Rattle.paper.specs.TableT.{tableT};
 ghost use Rattle.records.specs.Records.{Lent, lent, before, after};
-ghost use Rattle.capture.specs.Parts.{calls};
 ghost use Rattle.recording.specs.Run.{run, Begun};
 ghost use Rattle.recording.specs.Feed.{Ready};
-ghost use Rattle.recording.specs.ByParts.{advance};
 ghost use Rattle.replay.specs.Position.{
   bufferSize,
   mostMoves,
-  goingIn,
+  standing,
   Sound,
-  arrivedAs,
-  stoppedAs,
   lastText,
+  arrivedAs,
+  Came,
   isDone,
-  isOver,
-  turnText,
+  called,
   Turned,
-  Reached,
+  isOver,
+  first,
+  RunsTo,
 };
 use capture::State;
 use capture::keep::keep;
@@ -50,7 +48,7 @@ use verdicts::COUNT_WORDS;
 const TURNS: u64 = 18014398509481984;
 
 // Between two turns: the bytes at hand are those of the buffer from `at` to `end`; `more` asks for others. What is to be printed are the first
-// `count` bytes of the output. `ended` says that the capture is at its end, `failed` that reading or printing failed; each ends the run.
+// `count` bytes of the output. `ended` says that nothing more is to be found, `failed` that a read failed; each ends the run.
 pub struct Position {
     pub state: State,
     pub place: u64,
@@ -60,6 +58,12 @@ pub struct Position {
     pub count: usize,
     pub ended: bool,
     pub failed: bool,
+}
+
+// Where a run stopped, and whether it was because the output is closed.
+pub struct Ran {
+    pub position: Position,
+    pub closed: bool,
 }
 
 // The line that the end of the capture adds.
@@ -75,7 +79,7 @@ fn last_text(st: State, kept: usize, ended: bool, out: &mut [u8]) -> usize
 
 // The position after a read behind the bytes that were kept, by what it answered; a failed one adds no line.
 fn arrived(p: Position, kept: usize, got: isize, buf: &[u8], out: &mut [u8]) -> Position
-    requires kept { ⌜ kept ≤ bufferSize ⌝ }
+    requires kept { ⌜ kept < bufferSize ⌝ }
     requires buffer { ⌜ length (now buf) ≡ bufferSize ⌝ }
     requires room { ⌜ length (now out) ≡ bufferSize ⌝ }
     ensures position { λ r. ⌜ r ≡ arrivedAs p kept got ⌝ }
@@ -100,16 +104,14 @@ fn arrived(p: Position, kept: usize, got: isize, buf: &[u8], out: &mut [u8]) -> 
 
 // Keeps what was not used, and reads behind it.
 fn refill(p: Position, buf: &mut [u8], out: &mut [u8]) -> Position
-    requires sound { ⌜ Sound p (now buf) ⌝ }
+    requires sound { ⌜ Sound p ⌝ }
     requires more { ⌜ p .more ≡ true ⌝ }
     requires buffer { ⌜ length (now buf) ≡ bufferSize ⌝ }
     requires room { ⌜ length (now out) ≡ bufferSize ⌝ }
-    ensures sound { λ r. ⌜ Sound r (now (buf .exit)) ⌝ }
-    ensures turned { λ r. ⌜
-        ((t : Table) (w : Lent)
-        → Turned t (goingIn p (now (buf .entry)) w) (goingIn r (now (buf .exit)) w) r (now (out .entry)) (now (out .exit)))
+    ensures sound { λ r. ⌜ Sound r ⌝ }
+    ensures came { λ r. ⌜
+        ((w : Lent) → Came (standing p (now (buf .entry)) w (now (out .entry))) (standing r (now (buf .exit)) w (now (out .exit))))
         ⌝ }
-    ensures place { λ r. ⌜ r .place ≡ p .place ⌝ }
 {
     let at = p.at;
     let end = p.end;
@@ -144,21 +146,14 @@ fn judge_on(
     buf: &[u8],
     out: &mut [u8],
 ) -> Position
-    requires sound { ⌜ Sound p (now buf) ⌝ }
+    requires sound { ⌜ Sound p ⌝ }
     requires buffer { ⌜ length (now buf) ≡ bufferSize ⌝ }
     requires room { ⌜ length (now out) ≡ bufferSize ⌝ }
     requires ready { ⌜ Ready (tableIn (now t)) (lent (now head) (now counts) (now places)) (p .place) mostMoves ⌝ }
-    ensures sound { λ r. ⌜ Sound r (now (buf .entry)) ⌝ }
-    ensures call { λ r. ⌜
-        goingIn r (now (buf .entry)) (after head counts places)
-        ≡ advance (tableIn (now (t .entry))) (goingIn p (now (buf .entry)) (before head counts places)) (calls mostMoves)
+    ensures { λ r. ⌜
+        standing r (now (buf .entry)) (after head counts places) (now (out .exit))
+        ≡ called (tableIn (now (t .entry))) (standing p (now (buf .entry)) (before head counts places) (now (out .entry)))
         ⌝ }
-    ensures text { λ r. ⌜
-        Wrote (turnText (tableIn (now (t .entry))) (goingIn p (now (buf .entry)) (before head counts places)) (calls mostMoves) (r .ended))
-        (now (out .entry)) (now (out .exit)) (r .count)
-        ⌝ }
-    ensures places { λ r. ⌜ r .place ≤ p .place + mostMoves ⌝ }
-    ensures records { λ r. ⌜ Begun (tableIn (now (t .entry))) (run (r .place) (after head counts places)) ⌝ }
 {
     let at = p.at;
     let end = p.end;
@@ -178,7 +173,7 @@ fn judge_on(
     }
 }
 
-// One turn of a run that is not over: a part comes, or a call is made, and what is to be printed of it stands in `out`.
+// One turn of a run: a part comes, or a call is made, and what is to be printed of it stands in `out`.
 fn turn(
     t: &TableWords,
     p: Position,
@@ -188,16 +183,16 @@ fn turn(
     buf: &mut [u8],
     out: &mut [u8],
 ) -> Position
-    requires goes { ⌜ isOver p ≡ false ⌝ }
-    requires sound { ⌜ Sound p (now buf) ⌝ }
+    requires sound { ⌜ Sound p ⌝ }
     requires buffer { ⌜ length (now buf) ≡ bufferSize ⌝ }
     requires room { ⌜ length (now out) ≡ bufferSize ⌝ }
     requires ready { ⌜ Ready (tableIn (now t)) (lent (now head) (now counts) (now places)) (p .place) mostMoves ⌝ }
-    ensures sound { λ r. ⌜ Sound r (now (buf .exit)) ⌝ }
+    ensures sound { λ r. ⌜ Sound r ⌝ }
     ensures turned { λ r. ⌜
-        Turned (tableIn (now (t .entry))) (goingIn p (now (buf .entry)) (before head counts places))
-        (goingIn r (now (buf .exit)) (after head counts places)) r (now (out .entry)) (now (out .exit))
+        Turned (tableIn (now (t .entry))) (standing p (now (buf .entry)) (before head counts places) (now (out .entry)))
+        (standing r (now (buf .exit)) (after head counts places) (now (out .exit)))
         ⌝ }
+    ensures room { λ r. ⌜ r .count ≤ length (now (out .exit)) ⌝ }
     ensures places { λ r. ⌜ r .place ≤ p .place + mostMoves ⌝ }
     ensures records { λ r. ⌜ Begun (tableIn (now (t .entry))) (run (r .place) (after head counts places)) ⌝ }
 {
@@ -207,44 +202,10 @@ fn turn(
     judge_on(t, p, head, counts, places, buf, out)
 }
 
-fn is_over(p: Position) -> bool
-    ensures { λ r. ⌜ r ≡ isOver p ⌝ }
+fn start() -> Position
+    ensures { λ r. ⌜ r ≡ first ⌝ }
 {
-    p.ended | p.failed
-}
-
-// A run whose output is closed.
-fn stopped(p: Position) -> Position
-    ensures { λ r. ⌜ r ≡ stoppedAs p ⌝ }
-{
-    let state = p.state;
     Position {
-        state,
-        place: p.place,
-        at: p.at,
-        end: p.end,
-        more: p.more,
-        count: p.count,
-        ended: p.ended,
-        failed: true,
-    }
-}
-
-// Turn after turn from the start to the end: all that happens is that parts come and calls are made (`ByParts`), and what each turn left is printed.
-fn replay(
-    t: &TableWords,
-    head: &mut Head,
-    counts: &mut Counts,
-    places: &mut Places,
-    buf: &mut [u8],
-    out: &mut [u8],
-) -> Position
-    requires table { ⌜ tableIn (now t) ≡ tableT ⌝ }
-    requires buffer { ⌜ length (now buf) ≡ bufferSize ⌝ }
-    requires room { ⌜ length (now out) ≡ bufferSize ⌝ }
-    ensures { λ r. ⌜ Reached tableT (before head counts places) r (now (buf .exit)) (after head counts places) ⌝ }
-{
-    let mut p = Position {
         state: State::Start,
         place: 0,
         at: 0,
@@ -253,21 +214,51 @@ fn replay(
         count: 0,
         ended: false,
         failed: false,
-    };
+    }
+}
+
+fn is_over(p: Position) -> bool
+    ensures { λ r. ⌜ r ≡ isOver p ⌝ }
+{
+    p.ended | p.failed
+}
+
+// Turn after turn from the start to the end (`PrintsTheWhole`). That what each left is printed, and that `closed` is what printing it says, is left to reading.
+fn replay(
+    t: &TableWords,
+    head: &mut Head,
+    counts: &mut Counts,
+    places: &mut Places,
+    buf: &mut [u8],
+    out: &mut [u8],
+) -> Ran
+    requires table { ⌜ tableIn (now t) ≡ tableT ⌝ }
+    requires buffer { ⌜ length (now buf) ≡ bufferSize ⌝ }
+    requires room { ⌜ length (now out) ≡ bufferSize ⌝ }
+    ensures { λ r. ⌜
+        RunsTo tableT (standing first (now (buf .entry)) (before head counts places) (now (out .entry)))
+        (standing (r .position) (now (buf .exit)) (after head counts places) (now (out .exit))) (r .closed)
+        ⌝ }
+{
+    let mut p = start();
     let mut turns = TURNS;
     while 0 < turns {
         p = turn(t, p, head, counts, places, buf, out);
         let count = p.count;
         let printed = io::write_all(STDOUT_FILENO, &out[..count]);
-        if !printed {
-            return stopped(p);
-        }
-        if is_over(p) {
-            return p;
+        let closed = !printed;
+        if closed | is_over(p) {
+            return Ran {
+                position: p,
+                closed,
+            };
         }
         turns -= 1;
     }
-    p
+    Ran {
+        position: p,
+        closed: false,
+    }
 }
 
 fn main() {

@@ -1,9 +1,8 @@
-use mathlib.Core.Path.{ap, _∙_}
+use mathlib.Core.Path.{_∙_}
 use native.Mathlib.Omega.{arith}
 use mir.Syntax.{w64}
 use mir.Val.{ofZ, toZ}
-use Rattle.replay.specs.declared.Position.{Position}
-use Rattle.replay.proofs.OnPosition.{keep-within, keep-size, came-sound, came-turned}
+use Rattle.replay.proofs.OnPosition.{keep-within, keep-less, came-as, came-sound}
 use borrow.Author.Needs.{needs}
 use Rattle.replay.proofs.refill.Statement.{statement}
 use Rattle.replay.proofs.refill.Tie as tie
@@ -27,7 +26,7 @@ arrived-requires : tie.Need-arrived-requires
 arrived-requires c κs =
     let a = c .before .before .before .before .before .before .before .before .before .before .before .before in
     let wrote = c .before .before .before .before .before .before .before .before .keep .ensures in
-    (omega (arith, keep-within (a .args .p) (a .args .buf .now) (a .pre .0) (a .pre .1 .1 .0) _ _ wrote, keep-size (a .args .p) (a .args .buf .now) (a .pre .0) (a .pre .1 .1 .0) _ _ wrote), ((search needs) ∙ a .pre .1 .1 .0, a .pre .1 .1 .1))
+    (keep-less (a .args .p) (a .args .buf .now) (a .pre .0) (a .pre .1 .1 .0) _ _ wrote (a .pre .1 .0), ((search needs) ∙ a .pre .1 .1 .0, a .pre .1 .1 .1))
 
 same-length : tie.Need-same-length
 same-length c = search needs
@@ -41,7 +40,7 @@ returns c =
     let wrote = c .before .before .before .before .before .before .before .before .before .before .before .keep .ensures in
     let got = toZ w64 (ofZ w64 (c .before .before .before .before .before .before .before .read .result)) in
     let e = c .before .before .arrived .ensures in
-    (came-sound (a .args .p) (a .args .buf .now) (a .pre .0) (a .pre .1 .1 .0) _ _ wrote _ got _ (e .0) (a .pre .1 .0), ((λ t w. came-turned (a .args .p) (a .args .buf .now) (a .pre .0) (a .pre .1 .1 .0) _ _ wrote _ got _ (e .0) t w _ _ (e .1)), ap (λ (q : Position). q .place) (e .0)))
+    (came-sound (a .args .p) (a .args .buf .now) (a .pre .0) (a .pre .1 .1 .0) _ _ wrote got _ (e .0) (a .pre .1 .0), (λ w. came-as (a .args .p) (a .args .buf .now) (a .pre .0) (a .pre .1 .1 .0) _ _ wrote got _ (e .0) _ w _ _ (e .1)))
 
 pub refill-spec : {M : Type 1} → statement M
 refill-spec =
