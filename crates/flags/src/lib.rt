@@ -1,6 +1,9 @@
 // The flags of a segment: what they count as, and which step that is for a conversation.
 ghost use mathlib.Core.Path.{_≡_};
+ghost use mathlib.Core.Bool.{cond};
+ghost use Prim.Native.Nat.{_<_, _≤_};
 ghost use Rattle.flags.specs.Flags.{kindOf, nextOf};
+ghost use Rattle.flags.specs.Kinds.{entryOf};
 
 // The kinds that the four flags can count as.
 pub enum FlagKind {
@@ -30,22 +33,50 @@ pub enum Next {
     To(Phase),
 }
 
+// How many settings FIN, SYN, RST and ACK have.
+pub const FLAG_SETTINGS: usize = 16;
+
+// What each of them counts as: the one list that `flag_kind` reads and that the program `flags` prints. The entry of a setting is its flags
+// read as a binary number, FIN first.
+pub const KINDS: [Flags; FLAG_SETTINGS] = [
+    Flags::Wrong, // none of the four
+    Flags::Kind(FlagKind::Carry), // ACK
+    Flags::Kind(FlagKind::Reset), // RST
+    Flags::Kind(FlagKind::Reset), // RST ACK
+    Flags::Kind(FlagKind::Open), // SYN
+    Flags::Kind(FlagKind::Open), // SYN ACK
+    Flags::Wrong, // SYN RST
+    Flags::Wrong, // SYN RST ACK
+    Flags::Wrong, // FIN
+    Flags::Kind(FlagKind::End), // FIN ACK
+    Flags::Wrong, // FIN RST
+    Flags::Wrong, // FIN RST ACK
+    Flags::Wrong, // FIN SYN
+    Flags::Wrong, // FIN SYN ACK
+    Flags::Wrong, // FIN SYN RST
+    Flags::Wrong, // FIN SYN RST ACK
+];
+
+// What a flag adds to the entry's number.
+fn weight(flag: bool, n: usize) -> usize
+    ensures value { λ r. ⌜ r ≡ cond flag n 0 ⌝ }
+    ensures most { λ r. ⌜ r ≤ n ⌝ }
+{
+    if flag { n } else { 0 }
+}
+
+fn entry_of(fin: bool, syn: bool, rst: bool, ack: bool) -> usize
+    ensures entry { λ r. ⌜ r ≡ entryOf fin syn rst ack ⌝ }
+    ensures below { λ r. ⌜ r < 16 ⌝ }
+{
+    weight(fin, 8) + weight(syn, 4) + weight(rst, 2) + weight(ack, 1)
+}
+
+// What the flags of a segment count as: called for each that a rule may track.
 pub fn flag_kind(fin: bool, syn: bool, rst: bool, ack: bool) -> Flags
     ensures { λ r. ⌜ r ≡ kindOf fin syn rst ack ⌝ }
 {
-    if syn & !fin & !rst {
-        return Flags::Kind(FlagKind::Open);
-    }
-    if rst & !syn & !fin {
-        return Flags::Kind(FlagKind::Reset);
-    }
-    if fin & ack & !syn & !rst {
-        return Flags::Kind(FlagKind::End);
-    }
-    if ack & !fin & !syn & !rst {
-        return Flags::Kind(FlagKind::Carry);
-    }
-    Flags::Wrong
+    KINDS[entry_of(fin, syn, rst, ack)]
 }
 
 // The table of the paper, for a conversation that is held.
