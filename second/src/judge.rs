@@ -92,7 +92,7 @@ fn by_default(
 }
 
 #[derive(Clone, Copy, PartialEq, Eq)]
-enum Segment {
+pub enum Segment {
     Open,
     Carry,
     End,
@@ -100,7 +100,7 @@ enum Segment {
 }
 
 /// The kind of a segment, by the four flags that tracking looks at; none where they are wrong.
-fn segment(flags: u8) -> Option<Segment> {
+pub fn segment(flags: u8) -> Option<Segment> {
     const SYN_ACK: u8 = SYN | ACK;
     const RST_ACK: u8 = RST | ACK;
     const FIN_ACK: u8 = FIN | ACK;

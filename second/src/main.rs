@@ -9,6 +9,7 @@ mod dispatch;
 mod draft;
 mod event;
 mod faults;
+mod flags;
 mod gen;
 mod image;
 #[cfg(test)]
@@ -52,6 +53,7 @@ fn main() -> ExitCode {
     let done = match words[..] {
         ["run"] => piped(stream::run),
         ["recording"] => piped(recording::stream),
+        ["flags"] => piped(|_, output| flags::page(output)),
         ["replay"] => piped(|input, output| replay::lines(input, output)),
         ["rewrite", order, precision] => match rewrite::form(order, precision) {
             Some(form) => piped(|input, output| rewrite::rewrite(input, form, output)),
@@ -110,7 +112,7 @@ fn pace(scene: &pace::Scene, times: u32, step: u32) -> io::Result<ExitCode> {
 
 fn usage() -> ExitCode {
     eprintln!("second run < stream > lines\nsecond recording < capture > stream\nsecond gen SEED N > stream");
-    eprintln!("second replay < capture > lines\nsecond captures SEED N DIRECTORY");
+    eprintln!("second replay < capture > lines\nsecond captures SEED N DIRECTORY\nsecond flags > page");
     eprintln!("second rewrite big|little micro|nano < capture > capture");
     eprintln!("second pace SCENE TIMES STEP > stream, SCENE one of worked, last, none, held, six, chain, message,");
     eprintln!("  bundle, codes, dearest,");

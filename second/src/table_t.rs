@@ -1,4 +1,4 @@
-//! Table T of 01's worked set, and two of its frames.
+//! Table T of 01's worked set, and some of its frames.
 
 use crate::image::{read_table, TABLE_IMAGE};
 use crate::layers::Kind;
@@ -53,5 +53,18 @@ pub fn arp() -> Vec<u8> {
     let mut frame = vec![0xff; 6];
     frame.extend([2, 0, 0, 0, 0, 7, 8, 6]);
     frame.extend([0; 28]);
+    frame
+}
+
+/// A TCP frame of 10.0.0.9 to 10.1.0.1 from port 443, with a valid IP checksum.
+pub fn tcp(dport: u16, flags: u8) -> Vec<u8> {
+    let mut frame = vec![2, 0, 0, 0, 0, 1, 2, 0, 0, 0, 0, 2, 8, 0];
+    frame.extend([0x45, 0, 0, 40, 0, 1, 0, 0, 64, 6, 0, 0, 10, 0, 0, 9, 10, 1, 0, 1]);
+    frame.extend([443u16.to_be_bytes(), dport.to_be_bytes()].concat());
+    frame.extend([0, 0, 0, 1, 0, 0, 0, 2, 0x50, flags, 1, 0, 0, 0, 0, 0]);
+    let sum: u32 = frame[14..34].chunks(2).map(|w| u32::from(w[0]) << 8 | u32::from(w[1])).sum();
+    let folded = (sum & 0xffff) + (sum >> 16);
+    let check = !((folded & 0xffff) + (folded >> 16)) as u16;
+    frame[24..26].copy_from_slice(&check.to_be_bytes());
     frame
 }

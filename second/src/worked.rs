@@ -6,7 +6,7 @@ use crate::layers::{self, Addresses, ACK, SYN};
 use crate::reach::{flag_sets, flags_name};
 use crate::records::{fresh, Conversation, Quadruple, Records, CLOSING, FREE, OPENING, RUNNING};
 use crate::table::Table;
-use crate::table_t::{arp, frame_a, table_t};
+use crate::table_t::{arp, frame_a, table_t, tcp};
 
 /// A table, its records and an event space, judged frame by frame.
 struct Bench {
@@ -43,20 +43,6 @@ impl Bench {
 }
 
 const ADDRESSES: Addresses = Addresses::V4 { source: 0x0a00_0009, destination: 0x0a01_0001 };
-
-/// A TCP frame of 10.0.0.9 to 10.1.0.1 from port 443, with a valid IP checksum.
-fn tcp(dport: u16, flags: u8) -> Vec<u8> {
-    let mut frame = vec![2, 0, 0, 0, 0, 1, 2, 0, 0, 0, 0, 2, 8, 0];
-    frame.extend([0x45, 0, 0, 40, 0, 1, 0, 0, 64, 6, 0, 0, 10, 0, 0, 9, 10, 1, 0, 1]);
-    frame.extend([443u16.to_be_bytes(), dport.to_be_bytes()].concat());
-    frame.extend([0, 0, 0, 1, 0, 0, 0, 2, 0x50, flags, 1, 0, 0, 0, 0, 0]);
-    let sum: u32 = frame[14..34].chunks(2).map(|w| u32::from(w[0]) << 8 | u32::from(w[1])).sum();
-    let folded = (sum & 0xffff) + (sum >> 16);
-    let check = !((folded & 0xffff) + (folded >> 16)) as u16;
-    frame[24..26].copy_from_slice(&check.to_be_bytes());
-    assert!(layers::read(&frame).unwrap().transport.is_some());
-    frame
-}
 
 fn event(number: u16, rule: u16, array: &[u8], length: usize) -> Vec<u8> {
     let mut event = [number.to_be_bytes(), rule.to_be_bytes()].concat();
