@@ -1,10 +1,10 @@
-//! The page of the flags (5/12): what each setting of FIN, SYN, RST and ACK counts as, and what tracking does with it. What it does is
-//! asked of judged calls under table T, whose rule 20 tracks.
+//! The page of the flags (5/12): what each setting of FIN, SYN, RST and ACK counts as, and what tracking does with it. What it does, and
+//! the numbers below the table, are asked of judged calls under table T, whose rule 20 tracks.
 
 use crate::answer::Verdict;
 use crate::judge::{judge, segment, Segment};
 use crate::layers::{Addresses, ACK, FIN, RST, SYN};
-use crate::records::{fresh, Conversation, Quadruple, CLOSING, FREE, OPENING, RUNNING};
+use crate::records::{Conversation, Quadruple, Records, CLOSING, FREE, OPENING, RUNNING};
 use crate::table_t::{table_t, tcp};
 use std::io::{self, Write};
 
@@ -20,20 +20,12 @@ What the flags of a TCP segment count as, and what tracking does with it.
 FIN SYN RST ACK  counts as  not held    Opening          Running          Closing
 ";
 
-const LEGEND: &str = "
-A segment that is not blocked passes; its conversation, if it is still held, has age 0 again.
-is opened   it is held as Opening in the rule's first free place; where none is free: blocked 5, event 61
-is removed  it is held no longer, and its place is free
-blocked     40 wrong flags, 41 no such conversation, 42 not in this state; event 63, and no conversation changes
-The other flags of a segment make no difference.
-";
-
 pub fn page(output: &mut impl Write) -> io::Result<()> {
     output.write_all(TITLE.as_bytes())?;
     for setting in 0..16 {
         writeln!(output, "{}", line(setting))?;
     }
-    output.write_all(LEGEND.as_bytes())
+    output.write_all(legend().as_bytes())
 }
 
 /// The setting of which FIN is the highest bit, and ACK the lowest.
@@ -62,23 +54,63 @@ fn counts_as(flags: u8) -> &'static str {
 
 /// What rule 20 does with a segment whose conversation, and no other, is held in a state.
 fn cell(flags: u8, before: u8) -> String {
-    let table = table_t();
-    let mut records = fresh(&table, 0).expect("table T is good");
-    if before != FREE {
-        let addresses = Addresses::V4 { source: 0x0a00_0009, destination: 0x0a01_0001 };
-        records.held[PLACE][0] = before;
-        records.conversations[PLACE][0] = Conversation { quadruple: Quadruple::new(addresses, 443, PORT), age: 0 };
-    }
-    let answer = judge(&table, &mut records, &tcp(PORT, flags), 0, &mut [0; 256]).expect("all of it is good");
-    let after = records.held[PLACE][0];
+    let (verdict, _, after) = judged(flags, before);
     let (_, name) = STATES[usize::from(after)];
-    match answer.verdict {
+    match verdict {
         Verdict::Passed if after == FREE => "is removed".to_string(),
         Verdict::Passed if before == FREE => "is opened".to_string(),
         Verdict::Passed if before == after => format!("stays {name}"),
         Verdict::Passed => format!("becomes {name}"),
         blocked => format!("blocked {}", blocked.number()),
     }
+}
+
+/// The verdict, the event's number, and how the conversation is held after it.
+fn judged(flags: u8, before: u8) -> (Verdict, u16, u8) {
+    let mut records = Records::empty(0);
+    if before != FREE {
+        hold(&mut records, 0, PORT, before);
+    }
+    let (verdict, event) = judged_with(&mut records, flags);
+    (verdict, event, records.held[PLACE][0])
+}
+
+fn hold(records: &mut Records, slot: usize, port: u16, state: u8) {
+    let addresses = Addresses::V4 { source: 0x0a00_0009, destination: 0x0a01_0001 };
+    records.held[PLACE][slot] = state;
+    records.conversations[PLACE][slot] = Conversation { quadruple: Quadruple::new(addresses, 443, port), age: 0 };
+}
+
+fn judged_with(records: &mut Records, flags: u8) -> (Verdict, u16) {
+    let mut space = [0; 256];
+    let answer =
+        judge(&table_t(), records, &tcp(PORT, flags), 0, &mut space).expect("table T and these records are good");
+    (answer.verdict, u16::from_be_bytes([space[0], space[1]]))
+}
+
+/// The numbers below the table are those of judged segments: an open one while rule 20's two places are held by others, and one of each wrong step.
+fn legend() -> String {
+    let mut full = Records::empty(0);
+    hold(&mut full, 0, PORT + 1, OPENING);
+    hold(&mut full, 1, PORT + 2, OPENING);
+    let (no_place, too_many) = judged_with(&mut full, SYN);
+    let no_place = no_place.number();
+    let steps = [(0, RUNNING), (ACK, FREE), (SYN, RUNNING)].map(|(flags, before)| judged(flags, before));
+    let [flags, conversation, state] = steps.map(|(verdict, _, _)| verdict.number());
+    let events = steps.map(|(_, event, _)| event);
+    assert!(events.iter().all(|event| *event == events[0]), "one event for the wrong steps");
+    let wrong_step = events[0];
+    format!(
+        "
+Meant is the rule that decides the segment, if it tracks; its action and its rate come first.
+A segment that is not blocked passes; its conversation, if it is held then, has age 0.
+is opened   held as Opening in the rule's first free place; if none is free: blocked {no_place}, event {too_many}
+is removed  held no longer, and its place is free
+blocked     {flags} wrong flags, {conversation} no such conversation, {state} not in this state: event {wrong_step},
+            and the segment changes no conversation
+The other flags of a segment make no difference.
+"
+    )
 }
 
 #[cfg(test)]
@@ -90,13 +122,29 @@ mod tests {
         let mut bytes = vec![];
         page(&mut bytes).expect("written");
         let text = String::from_utf8(bytes).expect("text");
-        assert!(text.lines().all(|line| line.len() <= 120 && line == line.trim_end()));
+        assert!(text.lines().all(|line| line.len() <= 100 && line == line.trim_end()));
         let shown: Vec<&str> = text.lines().skip(4).take(16).map(|line| &line[..15]).collect();
-        assert_eq!(
-            (shown[0], shown[1], shown[8], shown[15]),
-            (" -   -   -   - ", " -   -   -  ACK", "FIN  -   -   - ", "FIN SYN RST ACK")
-        );
-        assert!(shown.windows(2).all(|pair| pair[0] != pair[1]));
+        let set = |line: &str| ["FIN", "SYN", "RST", "ACK"].map(|name| line.contains(name));
+        for (setting, line) in shown.into_iter().enumerate() {
+            assert_eq!(set(line), [8, 4, 2, 1].map(|bit| setting & bit != 0), "{setting}");
+        }
+    }
+
+    /// 01's table with 02's verdicts, by what the flags count as.
+    #[test]
+    fn cells_by_the_papers_table() {
+        for setting in 0..16 {
+            let line = line(setting);
+            let cells: Vec<&str> = [28..40, 40..57, 57..74, 74..line.len()].map(|at| line[at].trim_end()).to_vec();
+            let expected = match line[17..28].trim_end() {
+                "open" => ["is opened", "stays Opening", "blocked 42", "blocked 42"],
+                "carry" => ["blocked 41", "becomes Running", "stays Running", "stays Closing"],
+                "end" => ["blocked 41", "becomes Closing", "becomes Closing", "stays Closing"],
+                "reset" => ["blocked 41", "is removed", "is removed", "is removed"],
+                _ => ["blocked 40"; 4],
+            };
+            assert_eq!(cells, expected, "{setting}");
+        }
     }
 
     /// "Open: SYN without FIN or RST. Reset: RST without SYN or FIN. End: FIN and ACK without SYN or RST. Carry: ACK alone of the four."

@@ -36,8 +36,7 @@ pub enum Next {
 // How many settings FIN, SYN, RST and ACK have.
 pub const FLAG_SETTINGS: usize = 16;
 
-// What each of them counts as: the one list that `flag_kind` reads and that the program `flags` prints. The entry of a setting is its flags
-// read as a binary number, FIN first.
+// What each counts as: the one list that `flag_kind` reads and the program `flags` prints. An entry goes by its flags as a binary number, FIN first.
 pub const KINDS: [Flags; FLAG_SETTINGS] = [
     Flags::Wrong, // none of the four
     Flags::Kind(FlagKind::Carry), // ACK
@@ -72,7 +71,7 @@ fn entry_of(fin: bool, syn: bool, rst: bool, ack: bool) -> usize
     weight(fin, 8) + weight(syn, 4) + weight(rst, 2) + weight(ack, 1)
 }
 
-// What the flags of a segment count as: called for each that a rule may track.
+// What the flags of a segment count as: called for each TCP segment that is judged.
 pub fn flag_kind(fin: bool, syn: bool, rst: bool, ack: bool) -> Flags
     ensures { λ r. ⌜ r ≡ kindOf fin syn rst ack ⌝ }
 {

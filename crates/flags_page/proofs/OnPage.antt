@@ -9,7 +9,6 @@ use lib.Dec.{eqb}
 use borrow.Author.Tests.{eqb-true}
 use Rattle.numbers.specs.Lists.{allBelow, copies}
 use Rattle.numbers.proofs.Lists.{below-at}
-use Rattle.flags.specs.Flags.{kindOf}
 use Rattle.flags.specs.Kinds.{kinds, entryOf}
 use Rattle.flags.specs.declared.Flags.{Flags}
 use Rattle.flags.specs.declared.Flags.the-variants as flags
@@ -20,10 +19,11 @@ use Rattle.places.specs.Places.{Place, noQuad, heldAs, placeOf, placesOf, place
 use Rattle.places.specs.Ageing.{withAge}
 use Rattle.places.specs.declared.Quad.{Quad}
 use Rattle.places.proofs.PlaceLaws.{place-at}
-use Rattle.conversations.specs.Tracking.{Tracked, trackedAs}
+use Rattle.conversations.specs.Tracking.{trackedIn, trackedAs}
 use Rattle.conversations.specs.declared.Progress.{Progress}
 use Rattle.verdicts.specs.Rule.{verdictOf}
-use Rattle.flags_page.specs.Page.{placesWith, doneBy, doneOf, rowOf}
+use Rattle.flags_page.specs.Page.{placesWith, room, doneBy, doneOf, rowOf}
+use Rattle.flags_page.specs.declared.row.Held.{Held}
 use Rattle.flags_page.specs.declared.row.Held.the-variants as held
 use Rattle.flags_page.specs.declared.row.Done.{Done}
 use Rattle.flags_page.specs.declared.row.Row.{Row}
@@ -38,9 +38,16 @@ pub holding : (f : Phase) (q : Quad) (w : List ℕ) → q ≡ noQuad → w ≡ p
 holding f q w e h = ap (λ v. placesOf (v ∷ copies 7 (copies 6 0))) (h ∙ ap (λ p. placeWords (withAge (heldAs p f) 0)) e) ∙ as-held f
 
 -- what tracking left, as the page shows it
-pub shown : (p : Progress) (after : List (List ℕ)) (x : Tracked) (v s : ℕ) → trackedAs p after ≡ x → v ≡ verdictOf p → s ≡ placeOf (getD after 0 []) .state → _≡_ {A = Done} (record { verdict = v; state = s }) (doneBy x)
-shown p after x v s e ev es =
-    ap₂ (λ (a b : ℕ). record { verdict = a; state = b }) ev (es ∙ ap (λ (y : Place). y .state) (sym (place-at after 0))) ∙ ap doneBy e
+pub shown : (k : Flags) (h : Held) (q : Quad) (before after : List (List ℕ)) (p : Progress) (v s : ℕ)
+    → placesOf before ≡ placesWith h
+    → q ≡ noQuad
+    → trackedAs p after ≡ trackedIn room q (placesOf before) k
+    → v ≡ verdictOf p
+    → s ≡ placeOf (getD after 0 []) .state
+    → _≡_ {A = Done} (record { verdict = v; state = s }) (doneOf k h)
+shown k h q before after p v s eb eq e ev es =
+    ap₂ (λ (a b : ℕ). record { verdict = a; state = b }) ev (es ∙ ap (λ (y : Place). y .state) (sym (place-at after 0)))
+    ∙ ap doneBy (e ∙ ap₂ (λ (r : Quad) (ps : List Place). trackedIn room r ps k) eq eb)
 
 -- the flags that are the binary digits of an entry's number lead to it: a computed test, over the sixteen entries
 entryFor : ℕ → ℕ

@@ -1,11 +1,11 @@
 -- The page of the flags, a line for each setting of FIN, SYN, RST and ACK. Document 02, 5/12: "one page showing what each of the sixteen settings counts as".
 -- Assumes nothing.
 use Prim.Native.Nat.{ℕ, _/_, _%_}
-use mathlib.Core.Bool.{Bool}
-use mathlib.Core.List.{List, [], _∷_}
-use lib.ListN.{getD}
+use mathlib.Core.List.{List}
+use lib.ListN.{getD, set}
 use lib.Dec.{eqb}
 use Rattle.numbers.specs.Lists.{copies}
+use Rattle.table.specs.Table.{mostPlaces}
 use Rattle.table.specs.declared.Room.{Room}
 use Rattle.flags.specs.Flags.{kindOf}
 use Rattle.flags.specs.declared.Flags.{Flags}
@@ -20,16 +20,16 @@ use Rattle.flags_page.specs.declared.row.Row.{Row}
 
 -- the places of a rule that holds the frame's conversation so, and no other
 abbrev pub placesWith : Held → List Place
-placesWith held.Nothing = copies 8 free
-placesWith (held.As f) = heldAs noQuad f ∷ copies 7 free
+placesWith held.Nothing = copies mostPlaces free
+placesWith (held.As f) = set (copies mostPlaces free) 0 (heldAs noQuad f)
 
 -- what became of the frame and of its conversation: the verdict, and the state after it
 abbrev pub doneBy : Tracked → Done
 doneBy x = record { verdict = verdictOf (x .progress); state = getD (x .places) 0 free .state }
 
--- the most places a rule can have; no idle limit is met, since no time passes
+-- a rule with as many places as it can have; its idle limit says nothing, since no time passes
 abbrev pub room : Room
-room = record { places = 8; limit = 1 }
+room = record { places = mostPlaces; limit = 1 }
 
 -- what tracking does with a frame whose flags count as this
 abbrev pub doneOf : Flags → Held → Done

@@ -120,14 +120,16 @@ pub(crate) fn line(r: Row) {
 
 pub(crate) fn legend() {
     text(
-        b"\nA segment that is not blocked passes; its conversation, if it is still held, has age 0 again.\n",
+        b"\nMeant is the rule that decides the segment, if it tracks; its action and its rate come first.\n",
     );
     text(
-        b"is opened   it is held as Opening in the rule's first free place; where none is free: blocked 5, event 61\n",
+        b"A segment that is not blocked passes; its conversation, if it is held then, has age 0.\n",
     );
-    text(b"is removed  it is held no longer, and its place is free\n");
     text(
-        b"blocked     40 wrong flags, 41 no such conversation, 42 not in this state; event 63, and no conversation changes\n",
+        b"is opened   held as Opening in the rule's first free place; if none is free: blocked 5, event 61\n",
     );
+    text(b"is removed  held no longer, and its place is free\n");
+    text(b"blocked     40 wrong flags, 41 no such conversation, 42 not in this state: event 63,\n");
+    text(b"            and the segment changes no conversation\n");
     text(b"The other flags of a segment make no difference.\n");
 }

@@ -19,6 +19,9 @@ use table::PLACES;
 use table::Room;
 use verdicts::verdict::Verdict;
 
+// How many places a rule may have, as its setting says it.
+const MOST_PLACES: u8 = PLACES as u8;
+
 // How the frame's conversation is held before it.
 pub enum Held {
     Nothing,
@@ -74,7 +77,7 @@ fn tracked(flags: Flags, h: Held) -> Done
 {
     let mut places = places_with(h);
     let room = Room {
-        places: 8,
+        places: MOST_PLACES,
         limit: 1,
     };
     let turn = Turn {

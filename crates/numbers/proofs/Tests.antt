@@ -55,16 +55,6 @@ pub and-assoc : (a b c : Bool) → ((a && b) && c) ≡ (a && (b && c))
 and-assoc true b c = refl
 and-assoc false b c = refl
 
-pub and-three : (a b c : Bool) → ((a && b) && c) ≡ (a && (b && (c && true)))
-and-three true true true = refl
-and-three true true false = refl
-and-three true false c = refl
-and-three false b c = refl
-
-pub and-four : (a b c d : Bool) → (((a && b) && c) && d) ≡ (a && (b && (c && (d && true))))
-and-four true b c d = and-three b c d
-and-four false b c d = refl
-
 -- no bit of two words is set
 pub or-zero : (x y : ℕ) → eqb (bitOr x y) 0 ≡ (eqb x 0 && eqb y 0)
 or-zero x y =

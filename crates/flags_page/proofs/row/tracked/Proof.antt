@@ -1,9 +1,6 @@
 -- `flags_page::row::tracked` meets its contract.
 -- Assumes nothing.
-use mathlib.Core.Path.{ap₂, _∙_}
 use borrow.Author.Needs.{needs}
-use Rattle.conversations.specs.Tracking.{trackedIn}
-use Rattle.flags_page.specs.Page.{room}
 use Rattle.flags_page.proofs.OnPage.{shown}
 use Rattle.flags_page.proofs.row.tracked.Statement.{statement}
 use Rattle.flags_page.proofs.row.tracked.Tie as tie
@@ -28,8 +25,8 @@ state-requires c κs = search needs
 
 returns : tie.Need-returns
 returns c = let a = c .before .before .before .before .before .before .before .args in
-    shown _ (c .before .before .before .track .last .1 .1 .0) _ _ _ (c .before .before .before .track .ensures ∙ ap₂ (λ q ps. trackedIn room q ps (a .flags)) (c .before .before .before .before .before .no-quad .ensures) (c .before .before .before .before .before .before .places-with .ensures))
-    (c .before .before .verdict-of .ensures) (c .state .ensures)
+    shown (a .flags) (a .h) _ (c .before .before .before .before .before .before .places-with .result) (c .before .before .before .track .last .1 .1 .0) _ _ _ (c .before .before .before .before .before .before .places-with .ensures)
+    (c .before .before .before .before .before .no-quad .ensures) (c .before .before .before .track .ensures) (c .before .before .verdict-of .ensures) (c .state .ensures)
 
 pub tracked-spec : {M : Type 1} → statement M
 tracked-spec =
