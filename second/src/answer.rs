@@ -16,6 +16,7 @@ pub enum Verdict {
     PassedByDefault = 1,
     Blocked = 2,
     OverRate = 3,
+    /// No place is free, or the socket is at its number.
     NoFreePlace = 5,
     BlockedByDefault = 6,
     /// The four flags are no kind of segment, whether a conversation is held or not.
@@ -52,6 +53,8 @@ pub enum Refusal {
     StoredShort,
     /// A capture whose file header is short or no good one.
     BadCapture,
+    /// A socket above 1.
+    NoSuchSocket,
 }
 
 impl Refusal {
@@ -68,6 +71,7 @@ impl Refusal {
             Refusal::NoSuchState => 6,
             Refusal::StoredShort => 7,
             Refusal::BadCapture => 8,
+            Refusal::NoSuchSocket => 9,
         }
     }
 

@@ -241,7 +241,7 @@ fn table(default: Action, rules: &[Rule]) -> Table {
 /// Verdict, rule id and event.
 fn judged(table: &Table, frame: &[u8]) -> (Verdict, u16, Vec<u8>) {
     let mut space = [170; 256];
-    let answer = judge(table, &mut Records::empty(0), frame, 0, &mut space).expect("judged");
+    let answer = judge(table, &mut Records::empty(0), 0, frame, 0, &mut space).expect("judged");
     assert!(space[answer.length..].iter().all(|byte| *byte == 170));
     (answer.verdict, answer.rule, space[..answer.length].to_vec())
 }
@@ -337,8 +337,8 @@ fn a_bucket_counts_the_datagram() {
     let table = table(Action::Block, &[Rule { size: 1, refill: 0, ..rule(7, set::SERVICE | set::RATE) }]);
     let (mut records, frame) = (Records::empty(0), over_ipv4(&message(0).repeat(50)));
     for (verdict, level) in [(Verdict::Passed, 1_000), (Verdict::OverRate, 2_000)] {
-        let answer = judge(&table, &mut records, &frame, 0, &mut [0; 256]).expect("judged");
-        assert_eq!((answer.verdict, records.levels[0]), (verdict, level));
+        let answer = judge(&table, &mut records, 0, &frame, 0, &mut [0; 256]).expect("judged");
+        assert_eq!((answer.verdict, records.levels[0]), (verdict, [level, 0]));
     }
 }
 

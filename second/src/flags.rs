@@ -5,12 +5,14 @@ use crate::answer::Verdict;
 use crate::judge::{judge, segment, Segment};
 use crate::layers::{Addresses, ACK, FIN, RST, SYN};
 use crate::records::{Conversation, Quadruple, Records, CLOSING, FREE, OPENING, RUNNING};
+use crate::table::Table;
 use crate::table_t::{table_t, tcp};
 use std::io::{self, Write};
 
 const FLAGS: [(u8, &str); 4] = [(FIN, "FIN"), (SYN, "SYN"), (RST, "RST"), (ACK, "ACK")];
 const STATES: [(u8, &str); 4] = [(FREE, "none"), (OPENING, "Opening"), (RUNNING, "Running"), (CLOSING, "Closing")];
 const PLACE: usize = 1;
+const SOCKET: u8 = 0;
 const PORT: u16 = 50_001;
 
 const TITLE: &str = "\
@@ -71,30 +73,42 @@ fn judged(flags: u8, before: u8) -> (Verdict, u16, u8) {
     if before != FREE {
         hold(&mut records, 0, PORT, before);
     }
-    let (verdict, event) = judged_with(&mut records, flags);
+    let (verdict, event) = judged_with(&table_t(), &mut records, flags);
     (verdict, event, records.held[PLACE][0])
 }
 
 fn hold(records: &mut Records, slot: usize, port: u16, state: u8) {
     let addresses = Addresses::V4 { source: 0x0a00_0009, destination: 0x0a01_0001 };
-    records.held[PLACE][slot] = state;
-    records.conversations[PLACE][slot] = Conversation { quadruple: Quadruple::new(addresses, 443, port), age: 0 };
+    let conversation = Conversation { quadruple: Quadruple::new(addresses, 443, port), age: 0 };
+    records.hold(PLACE, slot, state, SOCKET, conversation);
 }
 
-fn judged_with(records: &mut Records, flags: u8) -> (Verdict, u16) {
+fn judged_with(table: &Table, records: &mut Records, flags: u8) -> (Verdict, u16) {
     let mut space = [0; 256];
     let answer =
-        judge(&table_t(), records, &tcp(PORT, flags), 0, &mut space).expect("table T and these records are good");
+        judge(table, records, SOCKET, &tcp(PORT, flags), 0, &mut space).expect("the table and these records are good");
     (answer.verdict, u16::from_be_bytes([space[0], space[1]]))
 }
 
-/// The numbers below the table are those of judged segments: an open one while rule 20's two places are held by others, and one of each wrong step.
+/// An open segment while rule 20's two places are held by others; or one of them, and that is all that its socket may hold.
+fn without_place(held: usize) -> (u8, u16) {
+    let (mut table, mut records) = (table_t(), Records::empty(0));
+    table.rules[PLACE].numbers[usize::from(SOCKET)] = held as u8;
+    for slot in 0..held {
+        hold(&mut records, slot, PORT + 1 + slot as u16, OPENING);
+    }
+    let (verdict, event) = judged_with(&table, &mut records, SYN);
+    (verdict.number(), event)
+}
+
+/// The numbers below the table are those of judged segments: open ones that get no place, and one of each wrong step.
 fn legend() -> String {
-    let mut full = Records::empty(0);
-    hold(&mut full, 0, PORT + 1, OPENING);
-    hold(&mut full, 1, PORT + 2, OPENING);
-    let (no_place, too_many) = judged_with(&mut full, SYN);
-    let no_place = no_place.number();
+    let (no_place, too_many) = without_place(2);
+    assert_eq!(
+        without_place(1),
+        (no_place, too_many),
+        "one answer, whether no place is free or the socket is at its number"
+    );
     let steps = [(0, RUNNING), (ACK, FREE), (SYN, RUNNING)].map(|(flags, before)| judged(flags, before));
     let [flags, conversation, state] = steps.map(|(verdict, _, _)| verdict.number());
     let events = steps.map(|(_, event, _)| event);
@@ -104,7 +118,8 @@ fn legend() -> String {
         "
 Meant is the rule that decides the segment, if it tracks; its action and its rate come first.
 A segment that is not blocked passes; its conversation, if it is held then, has age 0.
-is opened   held as Opening in the rule's first free place; if none is free: blocked {no_place}, event {too_many}
+is opened   held as Opening in the rule's first free place;
+            if none is free or its socket is at its number: blocked {no_place}, event {too_many}
 is removed  held no longer, and its place is free
 blocked     {flags} wrong flags, {conversation} no such conversation, {state} not in this state: event {wrong_step},
             and the segment changes no conversation

@@ -4,6 +4,7 @@ mod bad;
 mod bundles;
 mod calls;
 mod conversations;
+mod sockets;
 mod wishes;
 
 use std::io::{self, Write};
@@ -11,17 +12,20 @@ use std::io::{self, Write};
 use crate::answer::Refusal;
 use crate::dispatch::Bundle;
 use crate::draft::{junk, At, Damage, Draft, Packet, BROKEN, DAMAGES, DAMAGES6};
+use crate::event::SPACE;
 use crate::faults::{spoil_records, undercut_records, BadTable, RECORD_FAULTS};
 use crate::image;
 use crate::judge::judge;
 use crate::layers::{self, Addresses, Kind, ACK, FIN, RST, SYN};
 use crate::modem::Wish;
 use crate::random::Random;
-use crate::reach::{flag_sets, flags_name, Call, Reach};
+use crate::reach::{before_9, flag_sets, flags_name, Call, Reach};
 use crate::records::{self, Conversation, Quadruple, Records, CLOSING, FREE, HIGHEST_LEVEL, OPENING, RUNNING};
 use crate::stream::{LONGEST_FRAME, UNTOUCHED};
-use crate::table::{set, Rule, Table, PLACES, RULES};
+use crate::table::{set, Rule, Table, PLACES, RULES, SOCKETS};
+use crate::terminal::Sharing;
 use crate::world::{aim, draw_frame, draw_table, draw_table_without_rules, near_miss, STEADY};
+use sockets::below_number;
 
 /// Judged calls to one table, about; images are long, so tables must not change too often.
 const PER_TABLE: u64 = 300;
@@ -29,8 +33,8 @@ const PER_TABLE: u64 = 300;
 const TAIL: u64 = 60;
 /// From this many judged calls on, everything named must be reached.
 pub const ENOUGH: u64 = 1_000;
-/// From this many on there is room for each single fault, and for the modem's table, which comes at every fourth; so does the
-/// dispatch's, from the second table on.
+/// From this many on there is room for each single fault, and for the modem's table, which comes at every fourth; so do the
+/// dispatch's, from the second table on, and the terminal's, from the third.
 const SOME: u64 = 500;
 /// A frame that is to show something may be refused for its event space, so that another must come.
 const TRIES: usize = 4;
@@ -42,6 +46,10 @@ pub struct Gen<W: Write> {
     records: Records,
     reach: Reach,
     now: u64,
+    /// That of the judged calls to come, the one that the stream said last, and the calls since then that leave it in force.
+    socket: u8,
+    said: u8,
+    across: Vec<u8>,
     /// Judged calls to write in all, and those still to come.
     calls: u64,
     left: u64,
@@ -69,6 +77,9 @@ pub fn generate<W: Write>(seed: u64, calls: u64, output: W) -> io::Result<bool> 
         records: Records::empty(0),
         reach: Reach::new(),
         now: 0,
+        socket: 0,
+        said: 0,
+        across: vec![],
         calls,
         left: calls,
         bad_tables,
@@ -84,6 +95,8 @@ pub fn generate<W: Write>(seed: u64, calls: u64, output: W) -> io::Result<bool> 
         gen.one_table(number, tables)?;
     }
     gen.print()?;
+    // Whatever follows the stream is on the socket of a start.
+    gen.say_socket(0)?;
     gen.output.flush()?;
     Ok(gen.reach.report() == 0)
 }
@@ -109,6 +122,7 @@ impl<W: Write> Gen<W> {
         match number % 4 {
             0 if self.calls >= SOME => self.modem()?,
             1 => self.dispatch()?,
+            2 => self.terminal()?,
             _ => {}
         }
         let good = draw_table(number, &mut self.random);
@@ -191,6 +205,7 @@ impl<W: Write> Gen<W> {
         self.fresh(self.now)?;
         for _ in 0..4 {
             let frame = draw_frame(&mut self.random).bytes(&mut self.random);
+            self.turn_socket();
             self.judge(&frame)?;
             let state = self.random.below(3) as u8;
             self.switch(state)?;
@@ -201,9 +216,14 @@ impl<W: Write> Gen<W> {
     /// One frame of the main flow, with other calls beside it now and then.
     fn flow(&mut self) -> io::Result<()> {
         self.tick();
+        self.turn_socket();
+        if self.random.chance(2) {
+            self.no_socket();
+        }
+        let tracked = if self.all_flags_seen() { 44 } else { 53 };
         match self.random.below(100) {
-            0..=43 => self.tracked()?,
-            44..=82 => self.aimed()?,
+            at if at < tracked => self.tracked()?,
+            0..=82 => self.aimed()?,
             83..=94 => {
                 let frame = draw_frame(&mut self.random).bytes(&mut self.random);
                 self.judge(&frame)?;
@@ -226,6 +246,7 @@ impl<W: Write> Gen<W> {
             self.switch(state)?;
             for _ in 0..4 {
                 self.tick();
+                self.turn_socket();
                 let frame = draw_frame(&mut self.random).bytes(&mut self.random);
                 self.judge(&frame)?;
             }
@@ -292,6 +313,7 @@ impl<W: Write> Gen<W> {
             None => draw_frame(&mut self.random),
             Some(place) => {
                 let rule = self.table.rules[place];
+                self.aim_socket(&rule);
                 let mut draft = aim(&rule, &mut self.random);
                 if self.random.chance(30) {
                     near_miss(&rule, &mut draft, &mut self.random);

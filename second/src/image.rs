@@ -16,7 +16,7 @@ const RULE_RECORD_IMAGE: usize = 528;
 const PLACES_AT: usize = 16;
 const PLACE_IMAGE: usize = 64;
 /// Above the settings that are known, bits mean nothing yet.
-const KNOWN_SETTINGS: u32 = (1 << 23) - 1;
+const KNOWN_SETTINGS: u32 = (1 << 26) - 1;
 
 fn action(byte: u8) -> Action {
     if byte == 0 {
@@ -66,6 +66,8 @@ fn read_rule(image: &[u8]) -> Rule {
         source6: Prefix6 { address: be128(image, 61), length: image[77] },
         destination6: Prefix6 { address: be128(image, 78), length: image[94] },
         protocol6: image[95],
+        socket: image[96],
+        numbers: [image[97], image[98]],
     }
 }
 
@@ -75,7 +77,7 @@ pub fn read_records(image: &[u8]) -> Records {
     records.default = Counts { passed: be32(image, 12), blocked: be32(image, 16) };
     for place in 0..RULES {
         let rule = &image[RULE_RECORDS_AT + RULE_RECORD_IMAGE * place..];
-        records.levels[place] = be32(rule, 0);
+        records.levels[place] = [be32(rule, 0), be32(rule, 12)];
         records.counts[place] = Counts { passed: be32(rule, 4), blocked: be32(rule, 8) };
         for slot in 0..PLACES {
             read_place(&rule[PLACES_AT + PLACE_IMAGE * slot..], &mut records, place, slot);
@@ -94,8 +96,9 @@ fn read_place(image: &[u8], records: &mut Records, place: usize, slot: usize) {
         _ => Addresses::v6(be128(image, 18), be128(image, 34)),
     };
     let quadruple = Quadruple::new(addresses, be16(image, 9), be16(image, 11));
-    records.held[place][slot] = image[0].min(CLOSING);
-    records.conversations[place][slot] = Conversation { quadruple, age: be32(image, 13) };
+    let socket = u8::from(image[50] != 0);
+    let conversation = Conversation { quadruple, age: be32(image, 13) };
+    records.hold(place, slot, image[0].min(CLOSING), socket, conversation);
 }
 
 fn put(image: &mut [u8], at: usize, bytes: &[u8]) {
@@ -168,8 +171,16 @@ fn write_rule(rule: &Rule, image: &mut [u8], random: &mut Random) {
             image[at + 16] = prefix.length;
         }
     }
-    if rule.has(set::PROTOCOL6) {
-        image[95] = rule.protocol6;
+    let [number0, number1] = rule.numbers;
+    for (at, setting, byte) in [
+        (95, set::PROTOCOL6, rule.protocol6),
+        (96, set::SOCKET, rule.socket),
+        (97, set::NUMBER0, number0),
+        (98, set::NUMBER1, number1),
+    ] {
+        if rule.has(setting) {
+            image[at] = byte;
+        }
     }
 }
 
@@ -181,7 +192,9 @@ pub fn write_records(records: &Records, random: &mut Random) -> Vec<u8> {
     put(&mut image, 16, &records.default.blocked.to_be_bytes());
     for place in 0..RULES {
         let rule = &mut image[RULE_RECORDS_AT + RULE_RECORD_IMAGE * place..];
-        put(rule, 0, &records.levels[place].to_be_bytes());
+        for (at, level) in [0, 12].into_iter().zip(records.levels[place]) {
+            put(rule, at, &level.to_be_bytes());
+        }
         put(rule, 4, &records.counts[place].passed.to_be_bytes());
         put(rule, 8, &records.counts[place].blocked.to_be_bytes());
         for slot in 0..PLACES {
@@ -202,6 +215,7 @@ fn write_place(records: &Records, place: usize, slot: usize, image: &mut [u8], r
     put(image, 9, &conversation.quadruple.sport().to_be_bytes());
     put(image, 11, &conversation.quadruple.dport().to_be_bytes());
     put(image, 13, &conversation.age.to_be_bytes());
+    image[50] = if records.sockets[place][slot] == 0 { 0 } else { other_than(random, 0) };
 }
 
 /// The bytes of the other kind are ignored: noise, or for an IPv6 address its low bits.

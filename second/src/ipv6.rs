@@ -279,7 +279,7 @@ fn rule(settings: u32) -> Rule {
 /// Verdict, rule id and event.
 fn judged(table: &Table, frame: &[u8]) -> (Verdict, u16, Vec<u8>) {
     let mut space = [170; 256];
-    let answer = judge(table, &mut Records::empty(0), frame, 0, &mut space).expect("judged");
+    let answer = judge(table, &mut Records::empty(0), 0, frame, 0, &mut space).expect("judged");
     assert!(space[answer.length..].iter().all(|byte| *byte == 170));
     (answer.verdict, answer.rule, space[..answer.length].to_vec())
 }
@@ -397,7 +397,7 @@ fn the_ip_event_goes_by_the_settings_of_the_rule() {
 
 /// Tracked, whatever the kind, with four places.
 fn tracked() -> Table {
-    table(&[Rule { kind: Kind::Tcp, places: 4, idle: 1_000, ..rule(set::KIND | set::TRACKING) }])
+    table(&[Rule { kind: Kind::Tcp, places: 4, idle: 1_000, numbers: [4, 4], ..rule(set::KIND | set::TRACKING) }])
 }
 
 fn segment6(source: u128, destination: u128, flags: u8) -> Vec<u8> {
@@ -421,9 +421,9 @@ fn segment4(source: u32, destination: u32, flags: u8) -> Vec<u8> {
 /// Opens the first, then sends a carry of the second.
 fn first_then(first: &[u8], second: &[u8]) -> Verdict {
     let (table, mut records, mut space) = (tracked(), Records::empty(0), [0; 256]);
-    let opened = judge(&table, &mut records, first, 0, &mut space).expect("judged");
+    let opened = judge(&table, &mut records, 0, first, 0, &mut space).expect("judged");
     assert_eq!((opened.verdict, records.held[0][0]), (Verdict::Passed, OPENING));
-    judge(&table, &mut records, second, 0, &mut space).expect("judged").verdict
+    judge(&table, &mut records, 0, second, 0, &mut space).expect("judged").verdict
 }
 
 #[test]
@@ -466,9 +466,8 @@ fn an_ipv4_address_never_equals_an_ipv6_one() {
 fn holding(held: &[Addresses]) -> Records {
     let mut records = Records::empty(0);
     for (slot, addresses) in held.iter().enumerate() {
-        records.held[0][slot] = RUNNING;
         let quadruple = Quadruple::new(*addresses, 443, 5_000);
-        records.conversations[0][slot] = Conversation { quadruple, age: 0 };
+        records.hold(0, slot, RUNNING, 0, Conversation { quadruple, age: 0 });
     }
     records
 }
@@ -519,6 +518,6 @@ fn lines_of_layers_and_conversations() {
     assert_eq!(layers(&frame(&[], 58, &[])), format!("{start}58 - -\n"));
     let records = holding(&[Addresses::v6(SOURCE, 8), Addresses::V4 { source: 7, destination: 8 }]);
     let printed = lines(&[&b"R"[..], &write_records(&records, &mut Random::new(1)), b"P"].concat());
-    let six = "c 0 0 20010db8000000018000000000000001 00000000000000000000000000000008 443 5000 2 0\n";
-    assert_eq!(printed, format!("P 0 0 0 0\np 0 0 0 0\n{six}c 0 1 7 8 443 5000 2 0\n.\n"));
+    let six = "c 0 0 0 20010db8000000018000000000000001 00000000000000000000000000000008 443 5000 2 0\n";
+    assert_eq!(printed, format!("P 0 0 0 0\np 0 0 0 0 0\n{six}c 0 1 0 7 8 443 5000 2 0\n.\n"));
 }

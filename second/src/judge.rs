@@ -5,44 +5,49 @@ use crate::event;
 use crate::layers::{self, Layers, ACK, FIN, RST, SYN};
 use crate::matching::{self, Decider};
 use crate::records::{Conversation, Quadruple, Records, CLOSING, HIGHEST_LEVEL, OPENING, RUNNING};
-use crate::table::{set, Action, Rule, Table};
+use crate::table::{set, Action, Rule, Table, SOCKETS};
 
-/// Refuses 4, 5, 1, 2, 3 in this order and then changes nothing; else judges.
+/// A frame that is judged: the socket it came in by, its bytes, and what they show.
+struct Arrival<'a> {
+    socket: u8,
+    frame: &'a [u8],
+    layers: Layers<'a>,
+}
+
+/// Refuses 4, 5, 9, 1, 2, 3 in this order and then changes nothing; else judges.
 pub fn judge(
     table: &Table,
     records: &mut Records,
+    socket: u8,
     frame: &[u8],
     reading: u64,
     space: &mut [u8],
 ) -> Result<Answer, Refusal> {
     table.check()?;
     records.check(table)?;
-    let layers = layers::read(frame)?;
+    if usize::from(socket) >= SOCKETS {
+        return Err(Refusal::NoSuchSocket);
+    }
+    let arrival = Arrival { socket, frame, layers: layers::read(frame)? };
     if space.len() < event::SPACE {
         return Err(Refusal::SmallSpace);
     }
     let elapsed = records.elapse(reading);
     records.age(table, elapsed);
-    Ok(match matching::decider(table, records.state, &layers) {
-        Decider::Rule(place) => by_rule(table, records, place, frame, &layers, space),
-        Decider::Default(best) => by_default(table, records, best, frame, &layers, space),
+    Ok(match matching::decider(table, records.state, socket, &arrival.layers) {
+        Decider::Rule(place) => by_rule(table, records, place, &arrival, space),
+        Decider::Default(best) => by_default(table, records, best, &arrival, space),
     })
 }
 
-fn by_rule(
-    table: &Table,
-    records: &mut Records,
-    place: usize,
-    frame: &[u8],
-    layers: &Layers,
-    space: &mut [u8],
-) -> Answer {
+fn by_rule(table: &Table, records: &mut Records, place: usize, arrival: &Arrival, space: &mut [u8]) -> Answer {
     let rule = &table.rules[place];
-    // The level rises whatever follows, on a block rule too.
+    // The level of its socket rises whatever follows, on a block rule too.
     if rule.has(set::SIZE) {
-        records.levels[place] = records.levels[place].saturating_add(1_000).min(HIGHEST_LEVEL);
+        let level = &mut records.levels[place][usize::from(arrival.socket)];
+        *level = level.saturating_add(1_000).min(HIGHEST_LEVEL);
     }
-    let verdict = verdict_of(rule, records, place, layers);
+    let verdict = verdict_of(rule, records, place, arrival);
     records.counts[place].raise(verdict.passes());
     let number = match verdict {
         Verdict::OverRate => event::RATELIMIT,
@@ -50,18 +55,19 @@ fn by_rule(
         Verdict::NoFreePlace => event::TCP_MAXCONNECTIONS,
         _ => return Answer { verdict, rule: rule.id, length: 0 },
     };
-    let length = event::write(number, rule.id, frame, layers, space);
+    let length = event::write(number, rule.id, arrival.frame, &arrival.layers, space);
     Answer { verdict, rule: rule.id, length }
 }
 
 /// Step 4 of a rule that decides.
-fn verdict_of(rule: &Rule, records: &mut Records, place: usize, layers: &Layers) -> Verdict {
+fn verdict_of(rule: &Rule, records: &mut Records, place: usize, arrival: &Arrival) -> Verdict {
+    let level = records.levels[place][usize::from(arrival.socket)];
     if rule.action == Action::Block {
         Verdict::Blocked
-    } else if rule.has(set::SIZE) && records.levels[place] > 1_000 * u32::from(rule.size) {
+    } else if rule.has(set::SIZE) && level > 1_000 * u32::from(rule.size) {
         Verdict::OverRate
     } else if rule.has(set::TRACKING) {
-        track(rule, records, place, layers)
+        track(rule, records, place, arrival)
     } else {
         Verdict::Passed
     }
@@ -71,8 +77,7 @@ fn by_default(
     table: &Table,
     records: &mut Records,
     best: Option<(usize, u8)>,
-    frame: &[u8],
-    layers: &Layers,
+    arrival: &Arrival,
     space: &mut [u8],
 ) -> Answer {
     if table.states[records.state as usize].default == Action::Allow {
@@ -87,7 +92,7 @@ fn by_default(
         }
         None => (event::LINK_MISMATCH, NO_RULE),
     };
-    let length = event::write(number, id, frame, layers, space);
+    let length = event::write(number, id, arrival.frame, &arrival.layers, space);
     Answer { verdict: Verdict::BlockedByDefault, rule: NO_RULE, length }
 }
 
@@ -114,30 +119,31 @@ pub fn segment(flags: u8) -> Option<Segment> {
 }
 
 /// Wrong flags come before the conversation is looked for, so that 01's table speaks of the four kinds alone.
-fn track(rule: &Rule, records: &mut Records, place: usize, layers: &Layers) -> Verdict {
-    let (Some(ip), Some(tcp)) = (&layers.ip, &layers.transport) else {
+fn track(rule: &Rule, records: &mut Records, place: usize, arrival: &Arrival) -> Verdict {
+    let (Some(ip), Some(tcp)) = (&arrival.layers.ip, &arrival.layers.transport) else {
         unreachable!("a rule with tracking is of kind TCP, so a frame it matches shows both layers");
     };
     let Some(segment) = segment(tcp.flags) else {
         return Verdict::WrongFlags;
     };
     let quadruple = Quadruple::new(ip.addresses(), tcp.sport, tcp.dport);
-    match records.find(place, quadruple) {
-        None => begin(rule, records, place, quadruple, segment),
+    match records.find(place, arrival.socket, quadruple) {
+        None if segment != Segment::Open => Verdict::NoSuchConversation,
+        None => begin(rule, records, place, arrival.socket, quadruple),
         Some(slot) => proceed(records, place, slot, segment),
     }
 }
 
-/// The first row of 01's table: no such conversation is held.
-fn begin(rule: &Rule, records: &mut Records, place: usize, quadruple: Quadruple, segment: Segment) -> Verdict {
-    if segment != Segment::Open {
-        return Verdict::NoSuchConversation;
+/// An open segment of a conversation that is not held. A socket at its number gets no place, though one is free.
+fn begin(rule: &Rule, records: &mut Records, place: usize, socket: u8, quadruple: Quadruple) -> Verdict {
+    let at = usize::from(socket);
+    if records.held_by(place)[at] >= rule.numbers[at] {
+        return Verdict::NoFreePlace;
     }
     let Some(slot) = records.first_free(place, rule.places) else {
         return Verdict::NoFreePlace;
     };
-    records.held[place][slot] = OPENING;
-    records.conversations[place][slot] = Conversation { quadruple, age: 0 };
+    records.hold(place, slot, OPENING, socket, Conversation { quadruple, age: 0 });
     Verdict::Passed
 }
 

@@ -32,9 +32,12 @@ mod replay;
 mod replaying;
 mod rewrite;
 mod setting;
+#[cfg(test)]
+mod sockets;
 mod stream;
 mod table;
 mod table_t;
+mod terminal;
 #[cfg(test)]
 mod worked;
 mod world;
@@ -114,8 +117,8 @@ fn usage() -> ExitCode {
     eprintln!("second run < stream > lines\nsecond recording < capture > stream\nsecond gen SEED N > stream");
     eprintln!("second replay < capture > lines\nsecond captures SEED N DIRECTORY\nsecond flags > page");
     eprintln!("second rewrite big|little micro|nano < capture > capture");
-    eprintln!("second pace SCENE TIMES STEP > stream, SCENE one of worked, last, none, held, six, chain, message,");
-    eprintln!("  bundle, codes, dearest,");
+    eprintln!("second pace SCENE TIMES STEP > stream, SCENE one of worked, last, none, held, both, six, chain,");
+    eprintln!("  message, bundle, codes, dearest,");
     eprintln!(
         "  grow RULES HELD LENGTH, or check NAME, NAME one of worked, ports, tracked, empty, full, ipv6, nothing"
     );

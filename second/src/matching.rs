@@ -14,13 +14,13 @@ pub enum Decider {
 }
 
 #[inline]
-pub fn decider(table: &Table, state: u32, layers: &Layers) -> Decider {
+pub fn decider(table: &Table, state: u32, socket: u8, layers: &Layers) -> Decider {
     let mut best: Option<(usize, u8)> = None;
     let mut marks = table.states[state as usize].marks;
     while marks != 0 {
         let place = marks.trailing_zeros() as usize;
         marks &= marks - 1;
-        let count = matching_layers(&table.rules[place], layers);
+        let count = matching_layers(&table.rules[place], socket, layers);
         if count == ALL_LAYERS {
             return Decider::Rule(place);
         }
@@ -31,9 +31,10 @@ pub fn decider(table: &Table, state: u32, layers: &Layers) -> Decider {
     Decider::Default(best)
 }
 
+/// Of a frame that came in by this socket.
 #[inline]
-pub fn matching_layers(rule: &Rule, layers: &Layers) -> u8 {
-    if rule.has(set::LINK) && !link_matches(rule, layers) {
+pub fn matching_layers(rule: &Rule, socket: u8, layers: &Layers) -> u8 {
+    if rule.has(set::LINK) && !link_matches(rule, socket, layers) {
         0
     } else if rule.has(set::IP) && !ip_matches(rule, layers) {
         1
@@ -47,7 +48,7 @@ pub fn matching_layers(rule: &Rule, layers: &Layers) -> u8 {
 }
 
 #[inline]
-fn link_matches(rule: &Rule, layers: &Layers) -> bool {
+fn link_matches(rule: &Rule, socket: u8, layers: &Layers) -> bool {
     let tag_agrees = match layers.tag {
         None => !rule.has(set::TAG),
         Some(tag) => {
@@ -58,6 +59,7 @@ fn link_matches(rule: &Rule, layers: &Layers) -> bool {
     (!rule.has(set::ETHER) || rule.ether == layers.ether)
         && (!rule.has(set::DEST_MAC) || rule.dst == layers.dst)
         && (!rule.has(set::SOURCE_MAC) || rule.src == layers.src)
+        && (!rule.has(set::SOCKET) || rule.socket == socket)
         && tag_agrees
 }
 

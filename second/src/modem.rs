@@ -6,7 +6,7 @@ pub use wish::{chain, Compared, Half, Held, Meeting, Protocol, Wish, HALVES};
 
 use crate::layers::{Kind, DEST_OPTIONS, FRAGMENT, HOP_BY_HOP, PROTOCOL_TCP, PROTOCOL_UDP, ROUTING};
 use crate::random::Random;
-use crate::table::{set, Action, Prefix, Prefix6, Rule, State, Table, LONGEST_IDLE};
+use crate::table::{set, Action, Prefix, Prefix6, Rule, State, Table, LONGEST_IDLE, SOCKETS};
 use crate::world::{table_of, to_port};
 
 const EXTENSIONS: [u8; 3] = [HOP_BY_HOP, ROUTING, DEST_OPTIONS];
@@ -67,6 +67,9 @@ fn rule(place: usize, random: &mut Random) -> Rule {
         UDP_IPV4 => Rule { protocol: PROTOCOL_UDP, set: ports | set::PROTOCOL, ..to_port },
         UDP_IPV6 => Rule { protocol6: PROTOCOL_UDP, set: ports | set::PROTOCOL6, ..to_port },
         MESSAGES => Rule { set: ports | set::SERVICE, ..to_port },
-        _ => Rule { kind: Kind::Tcp, places: 4, idle: LONGEST_IDLE, set: ports | set::TRACKING, ..to_port },
+        _ => {
+            let numbers = [4; SOCKETS];
+            Rule { kind: Kind::Tcp, places: 4, numbers, idle: LONGEST_IDLE, set: ports | set::TRACKING, ..to_port }
+        }
     }
 }

@@ -1,4 +1,4 @@
-//! Tests of what a refused table names, each rule of 02's requests 1/12 and 2/12 by itself.
+//! Tests of what a refused table names, each rule of 02's requests 1/12, 2/12 and 6/12 by itself.
 
 use crate::answer::Refusal;
 use crate::layers::Kind;
@@ -18,7 +18,7 @@ fn refused(table: &Table) -> (u8, u8) {
 /// Table T with these set of rule 30, at place 2, which is then altered.
 fn table(settings: u32, alter: fn(&mut Rule)) -> Table {
     let mut table = table_t();
-    table.rules[2] = Rule { set: settings, kind: Kind::Tcp, places: 1, idle: 1, ..table.rules[2] };
+    table.rules[2] = Rule { set: settings, kind: Kind::Tcp, places: 1, idle: 1, numbers: [1, 1], ..table.rules[2] };
     alter(&mut table.rules[2]);
     table
 }
@@ -49,6 +49,8 @@ fn the_id_comes_first() {
 fn a_value_outside_its_range_names_its_setting() {
     assert_eq!(named(set::VLAN, |rule| rule.vlan = 4_095), 3);
     assert_eq!(named(set::PRIORITY, |rule| rule.priority = 8), 4);
+    assert_eq!(named(set::SOCKET, |rule| rule.socket = 2), 24);
+    assert_eq!(named(set::SOCKET, |rule| rule.socket = 255), 24);
     assert_eq!(named(set::SOURCE, |rule| rule.source.length = 33), 6);
     assert_eq!(named(set::DESTINATION, |rule| rule.destination.length = 33), 7);
     assert_eq!(named(set::SOURCE6, |rule| rule.source6.length = 129), 21);
@@ -64,12 +66,30 @@ fn a_value_outside_its_range_names_its_setting() {
     assert_eq!(named(TRACKED, |rule| (rule.places, rule.idle) = (0, 0)), 19);
 }
 
+/// "a tracking rule states how many each socket may hold, 0 to its places"
+#[test]
+fn a_number_above_the_places_names_itself() {
+    assert_eq!(named(TRACKED, |rule| rule.numbers = [2, 0]), 25);
+    assert_eq!(named(TRACKED, |rule| rule.numbers = [0, 2]), 26);
+    assert_eq!(named(TRACKED, |rule| rule.numbers = [255, 255]), 25);
+    assert_eq!(named(TRACKED, |rule| (rule.places, rule.numbers) = (8, [9, 8])), 25);
+    assert_eq!(named(TRACKED, |rule| (rule.places, rule.numbers) = (8, [8, 9])), 26);
+    // What comes before them in the order is named first.
+    assert_eq!(named(TRACKED, |rule| (rule.places, rule.numbers) = (9, [10, 10])), 19);
+    assert_eq!(named(TRACKED, |rule| (rule.places, rule.numbers) = (0, [1, 1])), 19);
+    assert_eq!(named(TRACKED, |rule| (rule.idle, rule.numbers) = (0, [2, 2])), 20);
+    assert!(good(TRACKED, |rule| (rule.places, rule.numbers) = (8, [8, 8])));
+    assert!(good(TRACKED, |rule| rule.numbers = [0, 0]));
+    assert!(good(set::SOCKET, |rule| rule.socket = 0) && good(set::SOCKET, |rule| rule.socket = 1));
+}
+
 #[test]
 fn what_is_not_set_is_not_at_fault() {
     let all_bad = |rule: &mut Rule| {
         (rule.vlan, rule.priority, rule.source.length, rule.destination.length) = (4_095, 8, 33, 33);
         (rule.source6.length, rule.destination6.length) = (129, 129);
         (rule.sports, rule.dports, rule.places, rule.idle) = (TURNED, TURNED, 0, 0);
+        (rule.socket, rule.numbers) = (2, [9, 9]);
     };
     assert!(good(0, all_bad));
     assert!(good(set::KIND | set::SOMEIP | set::RATE | set::ETHER | set::PROTOCOL, all_bad));
@@ -87,6 +107,29 @@ fn half_a_pair_names_its_set_half() {
     assert_eq!(named(set::KIND | set::IDLE, |rule| rule.idle = 0), 20);
     // What the unset half holds means nothing.
     assert_eq!(named(set::KIND | set::IDLE, |rule| rule.places = 0), 20);
+}
+
+/// Each choice of the four settings of tracking but none and all, and the one that is named: the first.
+fn parts_of_tracking() -> impl Iterator<Item = (u32, u8)> {
+    let settings = [(set::PLACES, 19), (set::IDLE, 20), (set::NUMBER0, 25), (set::NUMBER1, 26)];
+    (1..15).map(move |choice| {
+        let chosen: Vec<(u32, u8)> = (0..4).filter(|at| choice >> at & 1 != 0).map(|at| settings[at]).collect();
+        (chosen.iter().fold(0, |set, (setting, _)| set | setting), chosen[0].1)
+    })
+}
+
+#[test]
+fn tracking_of_which_something_is_not_set_names_its_first() {
+    for (part, first) in parts_of_tracking() {
+        assert_eq!(named(set::KIND | part, |_| {}), first);
+        // Whatever is wrong with the others, or not set, comes later or means nothing.
+        let all_bad = |rule: &mut Rule| (rule.places, rule.idle, rule.numbers) = (0, 0, [255, 255]);
+        assert_eq!(named(set::KIND | part, all_bad), first);
+        assert_eq!(named(set::KIND | part, |rule| rule.action = Action::Block), first, "on a block rule");
+        assert_eq!(named(set::KIND | part, |rule| rule.kind = Kind::Udp), first, "on UDP");
+        assert_eq!(named(part, |_| {}), first, "without a kind");
+    }
+    assert!(good(TRACKED, |_| {}));
 }
 
 #[test]
@@ -110,6 +153,7 @@ fn misplaced_tracking_names_its_first_set_half() {
     assert_eq!(named(set::PLACES, |_| {}), 19);
     assert_eq!(named(TRACKED, |rule| (rule.action, rule.idle) = (Action::Block, 0)), 19);
     assert_eq!(named(TRACKED, |rule| (rule.kind, rule.idle) = (Kind::Udp, 0)), 19);
+    assert_eq!(named(TRACKED, |rule| (rule.action, rule.numbers) = (Action::Block, [9, 9])), 19);
 }
 
 #[test]
@@ -142,12 +186,13 @@ fn prefixes_of_every_length_to_128_are_good() {
 fn settings_go_by_the_order_of_01() {
     let spoil = |rule: &mut Rule| {
         (rule.vlan, rule.priority, rule.source.length, rule.destination.length) = (4_095, 8, 33, 33);
-        (rule.source6.length, rule.destination6.length) = (129, 129);
+        (rule.source6.length, rule.destination6.length, rule.socket) = (129, 129, 2);
     };
-    let mut left = set::TAG | set::IPV4 | set::IPV6 | set::PORTS | set::SIZE | set::PLACES;
+    let mut left = set::TAG | set::ETHER | set::SOCKET | set::IPV4 | set::IPV6 | set::PORTS | set::SIZE | set::TRACKING;
     for (number, setting) in [
         (3, set::VLAN),
         (4, set::PRIORITY),
+        (24, set::SOCKET),
         (6, set::SOURCE),
         (7, set::DESTINATION),
         (21, set::SOURCE6),
@@ -158,6 +203,9 @@ fn settings_go_by_the_order_of_01() {
         (11, set::DEST_PORTS),
         (17, set::SIZE),
         (19, set::PLACES),
+        (20, set::IDLE),
+        (25, set::NUMBER0),
+        (26, set::NUMBER1),
     ] {
         assert_eq!(named(left, spoil), number);
         left &= !setting;

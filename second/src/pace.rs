@@ -8,7 +8,7 @@ use crate::image::{read_table, write_records, write_table, TABLE_IMAGE};
 use crate::layers::{Addresses, Kind, ACK, DEST_OPTIONS, ETHER_IPV4, ETHER_IPV6, LONGEST_CHAIN, PROTOCOL_TCP};
 use crate::random::Random;
 use crate::records::{Conversation, Quadruple, Records, RUNNING};
-use crate::table::{set, Action, Prefix, Prefix6, Range, Rule, State, Table, LONGEST_IDLE, PLACES, RULES};
+use crate::table::{set, Action, Prefix, Prefix6, Range, Rule, State, Table, LONGEST_IDLE, PLACES, RULES, SOCKETS};
 use crate::table_t::{arp, frame_a, table_t};
 
 /// The reading of the records and of the first frame.
@@ -31,10 +31,14 @@ const MOST_MESSAGES: usize = 92;
 const FIRST_PORT: u16 = 10_000;
 const PORTS_A_RULE: u16 = 10;
 const PORT_OF_NO_RULE: u16 = 40_000;
+/// Calls for one socket before the other's turn comes.
+const TURN: u32 = 100;
 
 pub enum Scene {
-    /// Each frame is judged on these records.
+    /// Each frame is judged on these records, on socket 0.
     Judged { table: Table, records: Records, frames: Vec<Vec<u8>> },
+    /// A frame of each socket, and the sockets take turns.
+    Alternating { table: Table, records: Records, frames: [Vec<u8>; SOCKETS] },
     /// Fresh records of this table are asked for, and refused.
     Checked(Table),
 }
@@ -46,6 +50,7 @@ pub fn scene(words: &[&str]) -> Option<Scene> {
         ["last"] => Some(ports(first_port(RULES - 1))),
         ["none"] => Some(ports(PORT_OF_NO_RULE)),
         ["held"] => Some(held()),
+        ["both"] => Some(both()),
         ["six"] => Some(six(0)),
         ["chain"] => Some(six(LONGEST_CHAIN)),
         ["message"] => Some(messages(1)),
@@ -62,35 +67,57 @@ impl Scene {
     /// Each call `times` times, one reading after the other.
     pub fn write(&self, times: u32, step: u32, output: &mut impl Write) -> io::Result<()> {
         match self {
-            Scene::Judged { table, records, frames } => write_judged(table, records, frames, times, step, output),
+            Scene::Judged { table, records, frames } => {
+                write_images(table, records, output)?;
+                let mut row = Row { reading: START, step };
+                frames.iter().try_for_each(|frame| row.write(times, frame, output))?;
+                output.write_all(b"P")
+            }
+            Scene::Alternating { table, records, frames } => {
+                write_images(table, records, output)?;
+                write_turns(frames, times, step, output)?;
+                output.write_all(b"P")
+            }
             Scene::Checked(table) => write_checked(table, times, step, output),
         }
     }
 }
 
-fn write_judged(
-    table: &Table,
-    records: &Records,
-    frames: &[Vec<u8>],
-    times: u32,
-    step: u32,
-    output: &mut impl Write,
-) -> io::Result<()> {
+fn write_images(table: &Table, records: &Records, output: &mut impl Write) -> io::Result<()> {
     let random = &mut Random::new(0);
     output.write_all(b"T")?;
     output.write_all(&write_table(table, random))?;
     output.write_all(b"R")?;
-    output.write_all(&write_records(records, random))?;
-    let mut reading = START;
-    for frame in frames {
+    output.write_all(&write_records(records, random))
+}
+
+/// Calls of `B` one behind the other, whose readings go on.
+struct Row {
+    reading: u64,
+    step: u32,
+}
+
+impl Row {
+    fn write(&mut self, times: u32, frame: &[u8], output: &mut impl Write) -> io::Result<()> {
         output.write_all(b"B")?;
-        output.write_all(&[times.to_be_bytes(), step.to_be_bytes()].concat())?;
-        output.write_all(&reading.to_be_bytes())?;
+        output.write_all(&[times.to_be_bytes(), self.step.to_be_bytes()].concat())?;
+        output.write_all(&self.reading.to_be_bytes())?;
         output.write_all(&[SPACE.to_be_bytes(), (frame.len() as u16).to_be_bytes()].concat())?;
         output.write_all(frame)?;
-        reading += u64::from(times) * u64::from(step);
+        self.reading += u64::from(times) * u64::from(self.step);
+        Ok(())
     }
-    output.write_all(b"P")
+}
+
+fn write_turns(frames: &[Vec<u8>; SOCKETS], times: u32, step: u32, output: &mut impl Write) -> io::Result<()> {
+    let mut row = Row { reading: START, step };
+    for done in (0..times).step_by(TURN as usize) {
+        for (socket, frame) in frames.iter().enumerate() {
+            output.write_all(&[b'S', socket as u8])?;
+            row.write(TURN.min(times - done), frame, output)?;
+        }
+    }
+    Ok(())
 }
 
 fn write_checked(table: &Table, times: u32, step: u32, output: &mut impl Write) -> io::Result<()> {
@@ -139,9 +166,27 @@ fn ports(port: u16) -> Scene {
 /// All places held, and a frame of the last conversation.
 fn held() -> Scene {
     let table = table(RULES, Action::Block, tracked_rule);
-    let mut draft = draft(Kind::Tcp, HTTPS, first_port(RULES - 1), 10);
-    draft.source = SOURCE + PLACES as u32 - 1;
-    Scene::Judged { table, records: running(RULES, PLACES), frames: vec![draft.bytes(&mut Random::new(0))] }
+    Scene::Judged { table, records: running(RULES, PLACES), frames: vec![held_frame(PLACES - 1)] }
+}
+
+/// All places held, half of each rule's by each socket, which may hold no more, and a frame of the last conversation of each.
+fn both() -> Scene {
+    let half = PLACES / SOCKETS;
+    let table = table(RULES, Action::Block, |place| Rule {
+        numbers: [(PLACES / SOCKETS) as u8; SOCKETS],
+        ..tracked_rule(place)
+    });
+    let mut records = running(RULES, PLACES);
+    for slots in &mut records.sockets {
+        slots[half..].fill(1);
+    }
+    Scene::Alternating { table, records, frames: [held_frame(half - 1), held_frame(PLACES - 1)] }
+}
+
+/// A frame of the conversation that the last rule holds in this slot.
+fn held_frame(slot: usize) -> Vec<u8> {
+    let draft = draft(Kind::Tcp, HTTPS, first_port(RULES - 1), 10);
+    Draft { source: SOURCE + slot as u32, ..draft }.bytes(&mut Random::new(0))
 }
 
 /// Tracked rules of IPv6, a conversation of the last one held, and a segment of it behind a chain of so many headers.
@@ -152,8 +197,7 @@ fn six(headers: usize) -> Scene {
     draft.chain = vec![Extension { number: DEST_OPTIONS, units: 0 }; headers];
     let mut records = Records::empty(START);
     let quadruple = Quadruple::new(draft.addresses(), draft.sport, draft.dport);
-    records.held[RULES - 1][0] = RUNNING;
-    records.conversations[RULES - 1][0] = Conversation { quadruple, age: 0 };
+    records.hold(RULES - 1, 0, RUNNING, 0, Conversation { quadruple, age: 0 });
     Scene::Judged { table, records, frames: vec![draft.bytes(&mut Random::new(0))] }
 }
 
@@ -255,6 +299,7 @@ fn tracked_rule(place: usize) -> Rule {
         dports: Range { low: first_port(place), high: first_port(place) },
         places: PLACES as u8,
         idle: LONGEST_IDLE,
+        numbers: [PLACES as u8; SOCKETS],
         ..allow(place, set::KIND | set::PORTS | set::TRACKING)
     }
 }
@@ -306,13 +351,12 @@ fn quadruple(place: usize, slot: usize) -> Quadruple {
     Quadruple::new(addresses, HTTPS, first_port(place))
 }
 
-/// The first places of the first rules are held, all Running.
+/// The first places of the first rules are held by socket 0, all Running.
 fn running(rules: usize, held: usize) -> Records {
     let mut records = Records::empty(START);
     for place in 0..rules {
         for slot in 0..held {
-            records.held[place][slot] = RUNNING;
-            records.conversations[place][slot] = Conversation { quadruple: quadruple(place, slot), age: 0 };
+            records.hold(place, slot, RUNNING, 0, Conversation { quadruple: quadruple(place, slot), age: 0 });
         }
     }
     records
@@ -349,11 +393,13 @@ fn draft(kind: Kind, sport: u16, dport: u16, payload: usize) -> Draft {
 
 #[cfg(test)]
 mod tests {
-    use super::{checked, scene, set, Scene, RULES, START};
+    use super::{checked, scene, set, Records, Scene, RULES, START, TABLE_IMAGE};
     use crate::answer::{Refusal, Verdict};
+    use crate::image::RECORD_IMAGE;
     use crate::judge::judge;
     use crate::layers::{self, Ip};
     use crate::matching::message_agrees;
+    use crate::records::FREE;
 
     #[test]
     fn a_checked_table_lacks_nothing_but_a_vehicle_state() {
@@ -366,6 +412,30 @@ mod tests {
     }
 
     #[test]
+    fn both_sockets_hold_half_of_all_places_and_take_turns() {
+        let Some(scene @ Scene::Alternating { .. }) = scene(&["both"]) else { panic!("no scene") };
+        let Scene::Alternating { table, mut records, frames } = scene else { unreachable!() };
+        assert!(records.held.iter().flatten().all(|held| *held != FREE));
+        assert!((0..RULES).all(|place| records.held_by(place) == [4, 4]));
+        let before = records.held;
+        for (socket, frame) in [0, 1].into_iter().zip(&frames) {
+            let passed = judge(&table, &mut records, socket, frame, START, &mut [0; 256]).expect("judged");
+            assert_eq!((passed.verdict, passed.rule), (Verdict::Passed, RULES as u16));
+            let other = judge(&table, &mut records, 1 - socket, frame, START, &mut [0; 256]).expect("judged");
+            assert_eq!(other.verdict, Verdict::NoSuchConversation, "the other socket does not hold it");
+        }
+        assert_eq!(records.held, before);
+
+        let mut stream = Vec::new();
+        Scene::Alternating { table, records: Records::empty(START), frames }
+            .write(250, 1, &mut stream)
+            .expect("written");
+        let turns = stream[2 + TABLE_IMAGE + RECORD_IMAGE..].chunks(2 + 21 + 64).map(|turn| (turn[1], turn[6]));
+        let expected = [(0, 100), (1, 100), (0, 100), (1, 100), (0, 50), (1, 50)];
+        assert_eq!(turns.take(6).collect::<Vec<_>>(), expected);
+    }
+
+    #[test]
     fn a_datagram_passes_with_one_message_or_as_many_as_can_be() {
         for (name, count, length) in [("message", 1, 58), ("bundle", 92, 1_514)] {
             let Some(Scene::Judged { table, mut records, frames }) = scene(&[name]) else { panic!("no scene {name}") };
@@ -373,7 +443,7 @@ mod tests {
             let someip = layers::read(&frames[0]).expect("layers").someip.expect("SOME/IP");
             assert_eq!(someip.messages().count(), count, "{name}");
             assert_eq!(table.rules[0].set & set::SOMEIP, set::SOMEIP, "{name}");
-            let answer = judge(&table, &mut records, &frames[0], START, &mut [0; 256]).expect("judged");
+            let answer = judge(&table, &mut records, 0, &frames[0], START, &mut [0; 256]).expect("judged");
             assert_eq!((answer.verdict, answer.rule), (Verdict::Passed, 1), "{name}");
         }
     }
@@ -384,11 +454,11 @@ mod tests {
         let someip = layers::read(&frames[0]).expect("layers").someip.expect("SOME/IP");
         let last = |rule| someip.messages().position(|message| !message_agrees(rule, &message));
         assert!(table.rules.iter().all(|rule| last(rule) == Some(91)));
-        let answer = judge(&table, &mut records, &frames[0], START, &mut [0; 256]).expect("judged");
+        let answer = judge(&table, &mut records, 0, &frames[0], START, &mut [0; 256]).expect("judged");
         assert_eq!(answer.verdict, Verdict::BlockedByDefault);
 
         let Some(Scene::Judged { table, mut records, frames }) = scene(&["codes"]) else { panic!("no scene") };
-        let answer = judge(&table, &mut records, &frames[0], START, &mut [0; 256]).expect("judged");
+        let answer = judge(&table, &mut records, 0, &frames[0], START, &mut [0; 256]).expect("judged");
         assert_eq!((answer.verdict, answer.rule), (Verdict::Passed, table.rules[RULES - 1].id));
     }
 
@@ -400,7 +470,7 @@ mod tests {
             assert!(matches!(read.ip, Some(Ip::V6(_))));
             assert_eq!(read.transport.map(|tcp| tcp.start), Some(54 + chain), "{name}");
             let before = records.held;
-            let answer = judge(&table, &mut records, &frames[0], START, &mut [0; 256]).expect("judged");
+            let answer = judge(&table, &mut records, 0, &frames[0], START, &mut [0; 256]).expect("judged");
             assert_eq!((answer.verdict, answer.rule), (Verdict::Passed, RULES as u16), "{name}");
             assert_eq!(records.held, before, "{name}");
         }

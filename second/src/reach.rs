@@ -2,6 +2,9 @@
 
 mod bundles;
 mod ipv6;
+mod sockets;
+
+pub use sockets::{before_9, BEFORE_9};
 
 use std::collections::BTreeMap;
 
@@ -9,10 +12,12 @@ use crate::answer::{Answer, Refusal, Verdict, NO_RULE};
 use crate::dispatch::Bundle;
 use crate::faults::{BadTable, RECORD_FAULTS};
 use crate::layers::{self, be16, be32, Ip, Kind, Layers, ACK, ETHER_IPV4, ETHER_IPV6, ETHER_TAG, FIN, RST, SYN};
+use crate::matching::{matching_layers, ALL_LAYERS};
 use crate::modem::Wish;
 use crate::records::{Quadruple, Records, FREE, HIGHEST_LEVEL};
 use crate::setting;
-use crate::table::{set, Table, CAN_BE_AT_FAULT, PLACES, RULES};
+use crate::table::{set, Rule, Table, CAN_BE_AT_FAULT, PLACES, RULES, SOCKETS};
+use crate::terminal::Sharing;
 
 pub const HELD_NAMES: [&str; 4] = ["none", "opening", "running", "closing"];
 
@@ -105,10 +110,50 @@ pub struct Call<'a> {
     pub table: &'a Table,
     pub before: &'a Records,
     pub after: &'a Records,
+    pub socket: u8,
+    /// The calls behind which a socket other than 0 is still in force.
+    pub across: &'a [u8],
     pub reading: u64,
     pub frame: &'a [u8],
     pub space: &'a [u8],
     pub judged: Result<Answer, Refusal>,
+}
+
+impl<'a> Call<'a> {
+    /// The place of the rule that decides.
+    fn decider(&self, answer: Answer) -> Option<usize> {
+        self.table.rules().iter().position(|rule| rule.id == answer.rule)
+    }
+
+    /// The active rules to the one that decides, and whether it is that.
+    fn looked_at(&self, answer: Answer) -> impl Iterator<Item = (&'a Rule, bool)> {
+        let (decider, marks) = (self.decider(answer), self.table.states[self.before.state as usize].marks);
+        let rules = self.table.rules().iter().enumerate().take(decider.map_or(RULES, |place| place + 1));
+        rules.filter(move |(place, _)| marks >> place & 1 != 0).map(move |(place, rule)| (rule, decider == Some(place)))
+    }
+
+    /// The records once the time up to the call has gone by.
+    fn aged(&self) -> Records {
+        let mut aged = self.before.clone();
+        let elapsed = aged.elapse(self.reading);
+        aged.age(self.table, elapsed);
+        aged
+    }
+}
+
+fn matches(rule: &Rule, socket: u8, layers: &Layers) -> bool {
+    matching_layers(rule, socket, layers) == ALL_LAYERS
+}
+
+/// The rule with some settings no longer set.
+fn without(rule: &Rule, settings: u32) -> Rule {
+    Rule { set: rule.set & !settings, ..*rule }
+}
+
+/// What tells a conversation from the others of its socket.
+fn quadruple(layers: &Layers) -> Option<Quadruple> {
+    let (ip, transport) = (layers.ip?, layers.transport?);
+    Some(Quadruple::new(ip.addresses(), transport.sport, transport.dport))
 }
 
 /// The name of a setting that refusal 4 names.
@@ -132,12 +177,14 @@ impl Reach {
     pub fn new() -> Reach {
         let mut names: Vec<String> = NAMES.iter().chain(&LAST_NAMES).map(|name| name.to_string()).collect();
         names.extend(VERDICTS.map(|verdict| format!("verdict-{}", verdict.number())));
-        names.extend((1..7).map(|refusal| format!("refusal-{refusal}")));
+        names.extend([1, 2, 3, 4, 5, 6, 9].map(|refusal| format!("refusal-{refusal}")));
+        names.extend(BEFORE_9.map(before_9));
         names.extend([setting::ID, setting::NONE].iter().chain(&CAN_BE_AT_FAULT).map(|number| setting_name(*number)));
         names.extend(BadTable::all().into_iter().map(BadTable::name));
         names.extend(RECORD_FAULTS.map(|fault| format!("record-fault-{fault}")));
         names.extend(Wish::all().into_iter().map(Wish::name));
         names.extend(Bundle::all().into_iter().map(Bundle::name));
+        names.extend(Sharing::all().into_iter().map(Sharing::name));
         names.extend((0..4).flat_map(|held| flag_sets().map(move |flags| flags_name(held, flags))));
         Reach::of(names)
     }
@@ -187,7 +234,7 @@ impl Reach {
         }
         let answer = match call.judged {
             Ok(answer) => answer,
-            Err(refusal) => return self.refused(refusal),
+            Err(refusal) => return self.refused_call(call, refusal),
         };
         self.hit(&format!("verdict-{}", answer.verdict.number()));
         if answer.length > 0 {
@@ -199,7 +246,16 @@ impl Reach {
         self.ipv6(call, answer, &layers);
         self.bundles(call, answer, &layers);
         self.clock(call);
-        self.records(call, answer, &layers);
+        let aged = call.aged();
+        self.records(call, answer, &layers, &aged);
+        self.sockets(call, answer, &layers, &aged);
+    }
+
+    fn refused_call(&mut self, call: &Call, refusal: Refusal) {
+        self.refused(refusal);
+        if usize::from(call.socket) >= SOCKETS {
+            self.no_socket(call, refusal);
+        }
     }
 
     fn frame_length(&mut self, frame: &[u8]) {
@@ -239,37 +295,33 @@ impl Reach {
         self.hit_if("clock-highest", reading == u64::MAX);
         let overflows = |place: usize| {
             call.table.rules[place].refill != 0
-                && call.before.levels[place] != 0
+                && call.before.levels[place] != [0; SOCKETS]
                 && u64::from(call.table.rules[place].refill).checked_mul(elapsed).is_none()
         };
         self.hit_if("refill-beyond-64-bits", (0..call.table.rules().len()).any(overflows));
     }
 
-    fn records(&mut self, call: &Call, answer: Answer, layers: &Layers) {
-        let mut aged = call.before.clone();
-        let elapsed = aged.elapse(call.reading);
-        aged.age(call.table, elapsed);
+    fn records(&mut self, call: &Call, answer: Answer, layers: &Layers, aged: &Records) {
         let ended = |place: usize| (0..PLACES).any(|slot| aged.held[place][slot] != call.before.held[place][slot]);
         let marks = call.table.states[call.before.state as usize].marks;
         self.hit_if("idle-end", (0..RULES).any(ended));
         self.hit_if("idle-end-of-rule-not-active", (0..RULES).any(|place| ended(place) && marks >> place & 1 == 0));
-        self.hit_if("level-at-highest", call.after.levels.contains(&HIGHEST_LEVEL));
+        self.hit_if("level-at-highest", call.after.levels.iter().flatten().any(|level| *level == HIGHEST_LEVEL));
         let changed = call.after.counts != call.before.counts || call.after.default != call.before.default;
         let near = call.after.counts.iter().any(|count| count.passed.max(count.blocked) > u32::MAX - 4);
         self.hit_if("count-near-stop", changed && near);
         self.hit_if("count-stopped", !changed);
-        self.tracking(call.table, &aged, answer, layers);
+        self.tracking(call, aged, answer, layers);
     }
 
     /// The flags, and how the conversation was held when tracking looked at them.
-    fn tracking(&mut self, table: &Table, aged: &Records, answer: Answer, layers: &Layers) {
-        let Some(place) = table.rules().iter().position(|rule| rule.id == answer.rule) else { return };
-        if !table.rules[place].has(set::TRACKING) || answer.verdict == Verdict::OverRate {
+    fn tracking(&mut self, call: &Call, aged: &Records, answer: Answer, layers: &Layers) {
+        let Some(place) = call.decider(answer) else { return };
+        if !call.table.rules[place].has(set::TRACKING) || answer.verdict == Verdict::OverRate {
             return;
         }
-        let (Some(ip), Some(tcp)) = (layers.ip, layers.transport) else { return };
-        let quadruple = Quadruple::new(ip.addresses(), tcp.sport, tcp.dport);
-        let held = aged.find(place, quadruple).map_or(FREE, |slot| aged.held[place][slot]);
+        let (Some(quadruple), Some(tcp)) = (quadruple(layers), layers.transport) else { return };
+        let held = aged.find(place, call.socket, quadruple).map_or(FREE, |slot| aged.held[place][slot]);
         self.hit(&flags_name(held, tcp.flags & (FIN | SYN | RST | ACK)));
     }
 

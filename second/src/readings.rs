@@ -4,7 +4,7 @@ use crate::faults::BadTable;
 use crate::gen::generate;
 use crate::layers::Addresses;
 use crate::random::Random;
-use crate::records::{Records, CLOSING};
+use crate::records::{Conversation, Records, CLOSING, FREE};
 use crate::stream::run;
 use crate::table::Prefix;
 use crate::table_t::table_t;
@@ -59,13 +59,13 @@ fn each_bad_table_is_refused_at_its_place_and_setting() {
     }
 }
 
-/// Fourteen settings and none: any two can be at fault together, save the halves of the rate and the protocol of IPv6 with what comes
+/// Seventeen settings and none: any two can be at fault together, save the halves of the rate and the protocol of IPv6 with what comes
 /// before it in IPv6, since both kinds of IP are named at the first.
 #[test]
 fn every_two_settings_that_can_be_at_fault_are() {
     let two = |bad: &&BadTable| matches!(bad, BadTable::Settings(..));
     let names: Vec<String> = BadTable::all().iter().filter(two).map(|bad| bad.name()).collect();
-    assert_eq!(names.len(), 15 * 14 / 2 - 3);
+    assert_eq!(names.len(), 18 * 17 / 2 - 3);
     for never in ["two-faults-17-18", "two-faults-21-23", "two-faults-22-23"] {
         assert!(!names.contains(&never.to_string()));
     }
@@ -95,4 +95,13 @@ fn what_no_fresh_record_has_is_a_bad_record() {
     let six = |records: &mut Records| records.conversations[1][0].quadruple.addresses = Addresses::v6(0, 0);
     assert!(bad(six), "a free place of another kind");
     assert!(bad(|records| records.held[1][0] = CLOSING + 1), "a state that there is not");
+    assert!(bad(|records| records.sockets[1][1] = 1), "a free place with a socket");
+    assert!(bad(|records| records.sockets[0][7] = 1) && bad(|records| records.sockets[63][0] = 1));
+    let of = |socket: u8| {
+        let mut records = Records::empty(0);
+        records.hold(1, 0, CLOSING, socket, Conversation::default());
+        records.hold(1, 1, FREE, 0, Conversation::default());
+        records.check(&table).is_ok()
+    };
+    assert!(of(0) && of(1) && (2..=255).all(|socket| !of(socket)), "a socket that there is not");
 }

@@ -2,7 +2,7 @@
 
 use crate::answer::Refusal;
 use crate::layers::Addresses;
-use crate::table::{set, Rule, Table, PLACES, RULES};
+use crate::table::{set, Rule, Table, PLACES, RULES, SOCKETS};
 
 pub const HIGHEST_LEVEL: u32 = 4_294_967_000;
 
@@ -12,7 +12,7 @@ pub const OPENING: u8 = 1;
 pub const RUNNING: u8 = 2;
 pub const CLOSING: u8 = 3;
 
-/// Equal where the kind of the addresses and all their bits are, and the ports.
+/// Equal where the kind of the addresses and all their bits are, and the ports. Two conversations of one quadruple on two sockets are two.
 #[derive(Clone, Copy, PartialEq, Eq, Debug)]
 pub struct Quadruple {
     pub addresses: Addresses,
@@ -91,19 +91,21 @@ impl Counts {
     }
 }
 
-/// Free places that are not as in a fresh record, and states that there are not, are looked for: no stream can say them, the lent words of the
-/// proved program can. Left out by the feature `as-written`, so that the cost of a frame can be compared with both.
+/// Free places that are not as in a fresh record, and states and sockets that there are not, are looked for: no stream can say them, the lent
+/// words of the proved program can. Left out by the feature `as-written`, so that the cost of a frame can be compared with both.
 const WORDS: bool = !cfg!(feature = "as-written");
 
-/// How the places are held stands apart from the conversations, so that eight free places show in one look.
+/// How the places are held, and by which socket, stands apart from the conversations, so that eight places show in one look.
 #[derive(Clone, PartialEq, Eq, Debug)]
 pub struct Records {
     pub last: u64,
     pub state: u32,
     pub default: Counts,
-    pub levels: [u32; RULES],
+    /// A level for each socket.
+    pub levels: [[u32; SOCKETS]; RULES],
     pub counts: [Counts; RULES],
     pub held: [[u8; PLACES]; RULES],
+    pub sockets: [[u8; PLACES]; RULES],
     pub conversations: [[Conversation; PLACES]; RULES],
 }
 
@@ -113,9 +115,10 @@ impl Records {
             last,
             state: 0,
             default: Counts::default(),
-            levels: [0; RULES],
+            levels: [[0; SOCKETS]; RULES],
             counts: [Counts::default(); RULES],
             held: [[FREE; PLACES]; RULES],
+            sockets: [[0; PLACES]; RULES],
             conversations: [[Conversation::default(); PLACES]; RULES],
         }
     }
@@ -138,32 +141,39 @@ impl Records {
     /// faster than to stop early.
     #[inline]
     fn empty_from(&self, count: usize) -> bool {
-        let levels = self.levels[count..].iter().fold(0, |any, level| any | level);
-        let held = self.held[count..].iter().fold(0, |any, held| any | u64::from_ne_bytes(*held));
-        levels == 0 && held == 0 && (!WORDS || self.conversations[count..].iter().all(all_fresh))
+        let levels = self.levels[count..].iter().fold(0, |any, [level0, level1]| any | level0 | level1);
+        let held = any_bit(&self.held[count..]);
+        levels == 0 && held == 0 && (!WORDS || self.fresh_from(count))
+    }
+
+    /// Whether these places, all of them free, are as in a fresh record.
+    #[inline]
+    fn fresh_from(&self, count: usize) -> bool {
+        any_bit(&self.sockets[count..]) == 0 && self.conversations[count..].iter().all(all_fresh)
     }
 
     #[inline]
     fn good_under(&self, place: usize, rule: &Rule) -> bool {
-        let level = self.levels[place];
+        let [level0, level1] = self.levels[place];
+        let level = level0.max(level1);
         if level > HIGHEST_LEVEL || (level != 0 && !rule.has(set::SIZE)) {
             return false;
         }
         if self.held[place] == [FREE; PLACES] {
-            return !WORDS || all_fresh(&self.conversations[place]);
+            return !WORDS || (self.sockets[place] == [0; PLACES] && all_fresh(&self.conversations[place]));
         }
         self.good_conversations(place, rule)
     }
 
-    /// Tracking, places, ages and no quadruple twice, over the places that are held.
+    /// Tracking, places, ages, no quadruple twice on one socket and no socket above its number, over the places that are held.
     #[inline]
     fn good_conversations(&self, place: usize, rule: &Rule) -> bool {
         if !rule.has(set::TRACKING) {
             return false;
         }
         let mut marks = [0; PLACES];
-        // a state that there is not
-        let mut bad = WORDS && u64::from_ne_bytes(self.held[place]) & u64::from_ne_bytes([!CLOSING; PLACES]) != 0;
+        let [held0, held1] = self.held_by(place);
+        let mut bad = (held0 > rule.numbers[0]) | (held1 > rule.numbers[1]) | (WORDS && self.has_no_such(place));
         for slot in 0..PLACES {
             let conversation = &self.conversations[place][slot];
             if self.held[place][slot] != FREE {
@@ -177,21 +187,39 @@ impl Records {
         !bad && !(any_alike(&marks) && self.repeats(place))
     }
 
+    /// A state that there is not, a socket that there is not, or a free place with a socket.
+    #[inline]
+    fn has_no_such(&self, place: usize) -> bool {
+        let (held, sockets) = (u64::from_ne_bytes(self.held[place]), u64::from_ne_bytes(self.sockets[place]));
+        (held & u64::from_ne_bytes([!CLOSING; PLACES])) | (sockets & !taken(held)) != 0
+    }
+
+    /// How many places of a rule each socket holds.
+    #[inline]
+    pub fn held_by(&self, place: usize) -> [u8; SOCKETS] {
+        let (held, sockets) = (u64::from_ne_bytes(self.held[place]), u64::from_ne_bytes(self.sockets[place]));
+        [taken(held) & !sockets, taken(held) & sockets].map(count_bytes)
+    }
+
     /// The exact look, needed only where two marks are alike.
     fn repeats(&self, place: usize) -> bool {
-        let again = |slot: usize| self.find_before(place, slot, self.conversations[place][slot].quadruple).is_some();
+        let again = |slot: usize| {
+            let (socket, quadruple) = (self.sockets[place][slot], self.conversations[place][slot].quadruple);
+            self.find_before(place, slot, socket, quadruple).is_some()
+        };
         (1..PLACES).any(|slot| self.held[place][slot] != FREE && again(slot))
     }
 
-    fn find_before(&self, place: usize, end: usize, quadruple: Quadruple) -> Option<usize> {
-        let (held, conversations) = (&self.held[place], &self.conversations[place]);
-        (0..end).find(|&slot| held[slot] != FREE && conversations[slot].quadruple == quadruple)
+    fn find_before(&self, place: usize, end: usize, socket: u8, quadruple: Quadruple) -> Option<usize> {
+        let (held, sockets, conversations) = (&self.held[place], &self.sockets[place], &self.conversations[place]);
+        (0..end)
+            .find(|&slot| held[slot] != FREE && sockets[slot] == socket && conversations[slot].quadruple == quadruple)
     }
 
-    /// The slot in which a rule holds this quadruple.
+    /// The slot in which a rule holds this quadruple of a socket.
     #[inline]
-    pub fn find(&self, place: usize, quadruple: Quadruple) -> Option<usize> {
-        self.find_before(place, PLACES, quadruple)
+    pub fn find(&self, place: usize, socket: u8, quadruple: Quadruple) -> Option<usize> {
+        self.find_before(place, PLACES, socket, quadruple)
     }
 
     /// The first free slot among the places the rule has.
@@ -200,11 +228,18 @@ impl Records {
         self.held[place][..usize::from(places)].iter().position(|held| *held == FREE)
     }
 
+    /// Puts a socket's conversation in a place.
+    #[inline]
+    pub fn hold(&mut self, place: usize, slot: usize, state: u8, socket: u8, conversation: Conversation) {
+        self.held[place][slot] = state;
+        self.sockets[place][slot] = socket;
+        self.conversations[place][slot] = conversation;
+    }
+
     /// A freed place is as in a fresh record.
     #[inline]
     pub fn free(&mut self, place: usize, slot: usize) {
-        self.held[place][slot] = FREE;
-        self.conversations[place][slot] = Conversation::default();
+        self.hold(place, slot, FREE, 0, Conversation::default());
     }
 
     /// Step 1: the time since the last judged frame, 0 if the clock went back.
@@ -222,10 +257,10 @@ impl Records {
             return;
         }
         for (place, rule) in table.rules().iter().enumerate() {
-            if self.levels[place] != 0 {
+            if self.levels[place] != [0; SOCKETS] {
                 // Beyond 32 bits every level has run out, so the product may stop there.
                 let fall = u64::from(rule.refill).saturating_mul(elapsed).min(u64::from(u32::MAX));
-                self.levels[place] = self.levels[place].saturating_sub(fall as u32);
+                self.levels[place] = self.levels[place].map(|level| level.saturating_sub(fall as u32));
             }
             if self.held[place] != [FREE; PLACES] {
                 self.age_conversations(place, rule.idle, elapsed);
@@ -246,6 +281,27 @@ impl Records {
             }
         }
     }
+}
+
+/// The bits that are set in any byte.
+#[inline]
+fn any_bit(rows: &[[u8; PLACES]]) -> u64 {
+    rows.iter().fold(0, |any, row| any | u64::from_ne_bytes(*row))
+}
+
+/// The lowest bit of each of eight bytes.
+const LOWEST: u64 = u64::from_ne_bytes([1; PLACES]);
+
+/// The lowest bit of each byte whose place is not free; a state is one of the two lowest bits or both.
+#[inline]
+fn taken(held: u64) -> u64 {
+    (held | held >> 1) & LOWEST
+}
+
+/// How many of the bytes have their lowest bit set, if no other bit is: the product adds them up in the highest.
+#[inline]
+fn count_bytes(bits: u64) -> u8 {
+    (bits.wrapping_mul(LOWEST) >> 56) as u8
 }
 
 #[inline]

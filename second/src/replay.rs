@@ -11,6 +11,9 @@ use crate::records::{fresh, Records};
 use crate::table::Table;
 use crate::table_t::table_t;
 
+/// "captures and M1 to M11 use socket 0" (02, 6/12).
+pub const SOCKET: u8 = 0;
+
 /// Table T and its records from one record of a capture to the next.
 pub struct Replay {
     table: Table,
@@ -31,7 +34,7 @@ impl Replay {
         if head.stored < head.wire {
             return Err(Refusal::StoredShort);
         }
-        judge(&self.table, &mut self.records, frame, time, &mut self.space)
+        judge(&self.table, &mut self.records, SOCKET, frame, time, &mut self.space)
     }
 
     /// The last reading that the records have seen.

@@ -24,16 +24,20 @@ pub const IDLE: u8 = 20;
 pub const SOURCE6: u8 = 21;
 pub const DESTINATION6: u8 = 22;
 pub const PROTOCOL6: u8 = 23;
+pub const SOCKET: u8 = 24;
+pub const NUMBER0: u8 = 25;
+pub const NUMBER1: u8 = 26;
 pub const ACTION: u8 = 28;
 /// The rule count or the states are at fault, and no setting of a rule.
 pub const NONE: u8 = 255;
 
-const LINK: [u8; 5] = [DEST_MAC, SOURCE_MAC, VLAN, PRIORITY, ETHER];
+const LINK: [u8; 6] = [DEST_MAC, SOURCE_MAC, VLAN, PRIORITY, ETHER, SOCKET];
 const IP: [u8; 6] = [SOURCE, DESTINATION, PROTOCOL, SOURCE6, DESTINATION6, PROTOCOL6];
 const TRANSPORT: [u8; 3] = [KIND, SOURCE_PORTS, DEST_PORTS];
 const SOMEIP: [u8; 5] = [SERVICE, METHOD, VERSION, MESSAGE, CODE];
+pub const TRACKING: [u8; 4] = [PLACES, IDLE, NUMBER0, NUMBER1];
 
 /// All settings in 01's order, by which the first at fault is named: not the order of the numbers.
 pub fn order() -> Vec<u8> {
-    [&[ID, ACTION][..], &LINK, &IP, &TRANSPORT, &SOMEIP, &[SIZE, REFILL], &[PLACES, IDLE]].concat()
+    [&[ID, ACTION][..], &LINK, &IP, &TRANSPORT, &SOMEIP, &[SIZE, REFILL], &TRACKING].concat()
 }

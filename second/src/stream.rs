@@ -7,7 +7,7 @@ use crate::image::{self, RECORD_IMAGE, TABLE_IMAGE};
 use crate::judge::judge;
 use crate::layers::{self, be16, be64, Addresses, Ip, Kind, Layers, SomeIp, ACK, FIN, RST, SYN};
 use crate::records::{self, Conversation, Records, FREE};
-use crate::table::{Table, PLACES, RULES};
+use crate::table::{Table, PLACES, RULES, SOCKETS};
 
 pub const LONGEST_FRAME: usize = 2_048;
 pub const LARGEST_SPACE: usize = 512;
@@ -18,6 +18,8 @@ pub const UNTOUCHED: u8 = 170;
 struct Run {
     table: Table,
     records: Records,
+    /// That of the judge calls that follow.
+    socket: u8,
     image: Vec<u8>,
     frame: [u8; LONGEST_FRAME],
     space: [u8; LARGEST_SPACE],
@@ -49,6 +51,7 @@ pub fn run(input: &mut impl Read, output: &mut impl Write) -> io::Result<()> {
     let mut run = Run {
         table: image::read_table(&[0; TABLE_IMAGE]),
         records: Records::empty(0),
+        socket: 0,
         image: vec![0; RECORD_IMAGE],
         frame: [0; LONGEST_FRAME],
         space: [UNTOUCHED; LARGEST_SPACE],
@@ -102,6 +105,7 @@ impl Run {
                 let [state] = take(input)?;
                 print_done(output, "V", records::switch(&self.table, &mut self.records, state))?;
             }
+            b'S' => [self.socket] = take(input)?,
             b'J' => self.judge(input, output)?,
             b'B' => self.pace(input, output)?,
             b'L' => {
@@ -138,7 +142,7 @@ impl Run {
     fn judge_once(&mut self, call: &Judging) -> Result<Answer, Refusal> {
         let space = &mut self.space[..call.size];
         space.fill(UNTOUCHED);
-        judge(&self.table, &mut self.records, &self.frame[..call.length], call.reading, space)
+        judge(&self.table, &mut self.records, self.socket, &self.frame[..call.length], call.reading, space)
     }
 
     fn judge(&mut self, input: &mut impl Read, output: &mut impl Write) -> Result<(), Stop> {
@@ -243,10 +247,11 @@ fn print_records(output: &mut impl Write, records: &Records) -> io::Result<()> {
     let default = records.default;
     writeln!(output, "P {} {} {} {}", records.last, records.state, default.passed, default.blocked)?;
     for place in 0..RULES {
-        let (level, counts) = (records.levels[place], records.counts[place]);
+        let (levels, counts) = (records.levels[place], records.counts[place]);
         let held = records.held[place] != [FREE; PLACES];
-        if level != 0 || counts.passed != 0 || counts.blocked != 0 || held {
-            writeln!(output, "p {place} {level} {} {}", counts.passed, counts.blocked)?;
+        if levels != [0; SOCKETS] || counts.passed != 0 || counts.blocked != 0 || held {
+            let [level0, level1] = levels;
+            writeln!(output, "p {place} {level0} {level1} {} {}", counts.passed, counts.blocked)?;
             print_conversations(output, records, place)?;
         }
     }
@@ -260,7 +265,7 @@ fn print_conversations(output: &mut impl Write, records: &Records, place: usize)
             continue;
         }
         let Conversation { quadruple: of, age } = records.conversations[place][slot];
-        write!(output, "c {place} {slot} ")?;
+        write!(output, "c {place} {slot} {} ", records.sockets[place][slot])?;
         match of.addresses {
             Addresses::V4 { source, destination } => write!(output, "{source} {destination} ")?,
             Addresses::V6 { source, destination } => {

@@ -7,6 +7,7 @@ use crate::setting;
 pub const RULES: usize = 64;
 pub const STATES: usize = 8;
 pub const PLACES: usize = 8;
+pub const SOCKETS: usize = 2;
 pub const LONGEST_IDLE: u32 = 600_000;
 
 /// One bit per setting: whether it is set. What an unset setting holds means nothing.
@@ -34,9 +35,12 @@ pub mod set {
     pub const SOURCE6: u32 = 1 << 20;
     pub const DESTINATION6: u32 = 1 << 21;
     pub const PROTOCOL6: u32 = 1 << 22;
+    pub const SOCKET: u32 = 1 << 23;
+    pub const NUMBER0: u32 = 1 << 24;
+    pub const NUMBER1: u32 = 1 << 25;
 
     pub const TAG: u32 = VLAN | PRIORITY;
-    pub const LINK: u32 = DEST_MAC | SOURCE_MAC | TAG | ETHER;
+    pub const LINK: u32 = DEST_MAC | SOURCE_MAC | TAG | ETHER | SOCKET;
     pub const IPV4: u32 = SOURCE | DESTINATION | PROTOCOL;
     pub const IPV6: u32 = SOURCE6 | DESTINATION6 | PROTOCOL6;
     pub const IP: u32 = IPV4 | IPV6;
@@ -44,7 +48,8 @@ pub mod set {
     pub const TRANSPORT: u32 = KIND | PORTS;
     pub const SOMEIP: u32 = SERVICE | METHOD | VERSION | MESSAGE | CODE;
     pub const RATE: u32 = SIZE | REFILL;
-    pub const TRACKING: u32 = PLACES | IDLE;
+    pub const NUMBERS: u32 = NUMBER0 | NUMBER1;
+    pub const TRACKING: u32 = PLACES | IDLE | NUMBERS;
 }
 
 #[derive(Clone, Copy, PartialEq, Eq, Debug)]
@@ -112,6 +117,7 @@ pub struct Rule {
     pub ether: u16,
     pub vlan: u16,
     pub priority: u8,
+    pub socket: u8,
     pub protocol: u8,
     pub source: Prefix,
     pub destination: Prefix,
@@ -126,6 +132,8 @@ pub struct Rule {
     pub message: u8,
     pub code: u8,
     pub places: u8,
+    /// How many of the places each socket may hold.
+    pub numbers: [u8; SOCKETS],
     pub size: u16,
     pub refill: u16,
     pub idle: u32,
@@ -138,17 +146,18 @@ impl Rule {
     }
 
     /// Which of `CAN_BE_AT_FAULT` are, as 02 names a fault: half a pair by its set half, ports without a kind by their first
-    /// range, misplaced tracking by its first set half. But for the settings of IPv6, which few rules have, no test is skipped for
-    /// another: that is faster than to branch.
+    /// range. But for the settings of IPv6 and of tracking, which many rules have none of, no test is skipped for another: that is
+    /// faster than to branch.
     #[inline(always)]
     fn faults(&self) -> [bool; CAN_BE_AT_FAULT.len()] {
-        let (kind, tcp) = (self.has(set::KIND), self.kind == Kind::Tcp);
-        let misplaced = (self.action == Action::Block) | !kind | !tcp;
-        let (places, idle) = (self.has(set::PLACES), self.has(set::IDLE));
+        let kind = self.has(set::KIND);
         let [source6, destination6, protocol6] = if self.has(set::IPV6) { self.faults_of_ipv6() } else { [false; 3] };
+        let [places, idle, number0, number1] =
+            if self.has(set::TRACKING) { self.faults_of_tracking() } else { [false; 4] };
         [
             self.has(set::VLAN) & (self.vlan > 4_094),
             self.has(set::PRIORITY) & (self.priority > 7),
+            self.has(set::SOCKET) & (usize::from(self.socket) >= SOCKETS),
             self.has(set::SOURCE) & (self.source.length > 32),
             self.has(set::DESTINATION) & (self.destination.length > 32),
             source6,
@@ -158,8 +167,10 @@ impl Rule {
             self.has(set::DEST_PORTS) & (self.dports.turned() | !kind),
             self.has(set::SIZE) & !self.has(set::REFILL),
             self.has(set::REFILL) & !self.has(set::SIZE),
-            places & (!idle | misplaced | (self.places < 1) | (self.places > PLACES as u8)),
-            idle & (!places | (self.idle < 1) | (self.idle > LONGEST_IDLE)),
+            places,
+            idle,
+            number0,
+            number1,
         ]
     }
 
@@ -175,13 +186,32 @@ impl Rule {
         ]
     }
 
+    /// Those of a rule with settings of tracking. Misplaced tracking, and tracking of which something is not set, is named by the first
+    /// that is set, whose bit is the lowest.
+    #[inline]
+    fn faults_of_tracking(&self) -> [bool; 4] {
+        let set = self.set & set::TRACKING;
+        if set != set::TRACKING {
+            let first = set & set.wrapping_neg();
+            return [set::PLACES, set::IDLE, set::NUMBER0, set::NUMBER1].map(|setting| setting == first);
+        }
+        let misplaced = (self.action == Action::Block) | !self.has(set::KIND) | (self.kind != Kind::Tcp);
+        [
+            misplaced | (self.places < 1) | (self.places > PLACES as u8),
+            (self.idle < 1) | (self.idle > LONGEST_IDLE),
+            self.numbers[0] > self.places,
+            self.numbers[1] > self.places,
+        ]
+    }
+
     /// Whether anything is wrong with the rule by itself.
     #[inline]
     fn at_fault(&self) -> bool {
         self.faults().into_iter().fold(self.id == NO_RULE, |any, fault| any | fault)
     }
 
-    /// The settings at fault beside the id, in 01's order, as 02 names them: misplaced tracking and both kinds of IP by one alone.
+    /// The settings at fault beside the id, in 01's order, as 02 names them: misplaced tracking, tracking of which something is not set,
+    /// and both kinds of IP by one alone.
     pub fn settings_at_fault(&self) -> impl Iterator<Item = u8> {
         let faults = CAN_BE_AT_FAULT.into_iter().zip(self.faults());
         faults.filter(|(_, at_fault)| *at_fault).map(|(setting, _)| setting)
@@ -189,9 +219,10 @@ impl Rule {
 }
 
 /// The settings beside the id that can be at fault, in 01's order. Every other holds no more than it may.
-pub const CAN_BE_AT_FAULT: [u8; 13] = [
+pub const CAN_BE_AT_FAULT: [u8; 16] = [
     setting::VLAN,
     setting::PRIORITY,
+    setting::SOCKET,
     setting::SOURCE,
     setting::DESTINATION,
     setting::SOURCE6,
@@ -203,6 +234,8 @@ pub const CAN_BE_AT_FAULT: [u8; 13] = [
     setting::REFILL,
     setting::PLACES,
     setting::IDLE,
+    setting::NUMBER0,
+    setting::NUMBER1,
 ];
 
 #[derive(Clone, Copy, Debug)]

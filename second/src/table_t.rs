@@ -26,6 +26,7 @@ pub fn table_t() -> Table {
         sports: Range { low: 443, high: 443 },
         places: 2,
         idle: 1_000,
+        numbers: [2, 2],
         ..rule(20, Action::Allow, set::KIND | set::SOURCE_PORTS | set::TRACKING)
     };
     table.rules[2] = Rule { ether: 0x0806, size: 2, refill: 1, ..rule(30, Action::Allow, set::ETHER | set::RATE) };

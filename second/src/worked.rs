@@ -25,7 +25,7 @@ impl Bench {
     /// Verdict, rule id and the event.
     fn judge(&mut self, reading: u64, frame: &[u8]) -> (Verdict, u16, Vec<u8>) {
         self.space = [170; 256];
-        let answer = judge(&self.table, &mut self.records, frame, reading, &mut self.space).expect("judged");
+        let answer = judge(&self.table, &mut self.records, SOCKET, frame, reading, &mut self.space).expect("judged");
         assert!(self.space[answer.length..].iter().all(|byte| *byte == 170), "only the event is written");
         (answer.verdict, answer.rule, self.space[..answer.length].to_vec())
     }
@@ -36,13 +36,15 @@ impl Bench {
 
     fn refusal(&mut self, frame: &[u8]) -> Refusal {
         let before = self.records.clone();
-        let refused = judge(&self.table, &mut self.records, frame, 5, &mut self.space);
+        let refused = judge(&self.table, &mut self.records, SOCKET, frame, 5, &mut self.space);
         assert_eq!(self.records, before);
         refused.expect_err("refused")
     }
 }
 
 const ADDRESSES: Addresses = Addresses::V4 { source: 0x0a00_0009, destination: 0x0a01_0001 };
+/// "captures and M1 to M11 use socket 0" (02, 6/12).
+const SOCKET: u8 = 0;
 
 fn event(number: u16, rule: u16, array: &[u8], length: usize) -> Vec<u8> {
     let mut event = [number.to_be_bytes(), rule.to_be_bytes()].concat();
@@ -89,12 +91,12 @@ fn m5_the_bucket_rises_and_drains() {
     let (mut verdicts, mut levels) = (vec![], vec![]);
     for reading in [0, 0, 0, 1_000, 2_000, 4_000] {
         verdicts.push(bench.verdict(reading, &arp()).number());
-        levels.push(bench.records.levels[2]);
+        levels.push(bench.records.levels[2][0]);
     }
     assert_eq!(verdicts, [0, 0, 3, 3, 3, 0]);
     assert_eq!(levels, [1_000, 2_000, 3_000, 3_000, 3_000, 2_000]);
     let mut over = Bench::new(0);
-    over.records.levels[2] = 2_000;
+    over.records.levels[2][0] = 2_000;
     assert_eq!(over.judge(0, &arp()).2, event(64, 30, &arp()[6..12], 6));
 }
 
@@ -127,8 +129,7 @@ fn each_set_of_flags_in_each_held_state() {
         for (flags, letter) in flag_sets().zip(FLAG_SETS) {
             let mut bench = Bench::new(0);
             if held != FREE {
-                bench.records.held[1][0] = held;
-                bench.records.conversations[1][0] = Conversation { quadruple, age: 7 };
+                bench.records.hold(1, 0, held, SOCKET, Conversation { quadruple, age: 7 });
             }
             // The other flags say nothing to tracking.
             let (verdict, rule, written) = bench.judge(0, &tcp(5_000, flags | 0xe8));

@@ -8,7 +8,7 @@ use crate::draft::{Damage, Draft, Extension, Message, Packet};
 use crate::image::{read_table, TABLE_IMAGE};
 use crate::layers::{Kind, ACK, DEST_OPTIONS, ETHER_IPV4, ETHER_IPV6, FRAGMENT, HOP_BY_HOP, ROUTING, SYN};
 use crate::random::Random;
-use crate::table::{set, Action, Prefix, Prefix6, Range, Rule, State, Table, LONGEST_IDLE, RULES, STATES};
+use crate::table::{set, Action, Prefix, Prefix6, Range, Rule, State, Table, LONGEST_IDLE, RULES, SOCKETS, STATES};
 
 const MACS: [u64; 5] = [0x021a_aaaa_aaaa, 0x021b_bbbb_bbbb, 0x0200_0000_0003, 0xffff_ffff_ffff, 0x0100_5e00_00fb];
 const ADDRESSES: [u32; 8] =
@@ -53,6 +53,12 @@ fn range(random: &mut Random) -> Range {
     }
 }
 
+/// How many of so many places each socket may hold: all of them, as many as there are between the two, or any number.
+fn draw_numbers(places: u8, random: &mut Random) -> [u8; SOCKETS] {
+    let [one, other] = std::array::from_fn(|_| random.between(0, places.into()) as u8);
+    random.pick(&[[places; SOCKETS], [places; SOCKETS], [one, places - one], [one, other], [one, other]])
+}
+
 /// So many rules, whose ids rise from one on, and these states.
 pub fn table_of(rules: usize, first_id: u16, states: &[State], mut rule: impl FnMut(usize) -> Rule) -> Table {
     let mut table = read_table(&[0xff; TABLE_IMAGE]);
@@ -71,6 +77,7 @@ pub fn to_port(port: u16, random: &mut Random) -> Rule {
 
 /// A rule with every value drawn and nothing set.
 pub fn blank(random: &mut Random) -> Rule {
+    let places = random.between(1, 8) as u8;
     Rule {
         id: 0,
         action: Action::Allow,
@@ -79,6 +86,7 @@ pub fn blank(random: &mut Random) -> Rule {
         src: random.pick(&MACS),
         vlan: random.pick(&VLANS),
         priority: random.below(8) as u8,
+        socket: random.below(SOCKETS as u64) as u8,
         ether: random.pick(&ETHERS),
         source: prefix(random),
         destination: prefix(random),
@@ -96,8 +104,9 @@ pub fn blank(random: &mut Random) -> Rule {
         code: random.pick(&[0, 0, 1]),
         size: random.pick(&[0, 1, 2, 3, 5, 10, 65_535]),
         refill: random.pick(&REFILLS),
-        places: random.between(1, 8) as u8,
+        places,
         idle: random.pick(&IDLES),
+        numbers: draw_numbers(places, random),
     }
 }
 
@@ -106,7 +115,7 @@ fn some_of(settings: &[u32], percent: u64, random: &mut Random) -> u32 {
     settings.iter().filter(|_| random.chance(percent)).fold(0, |set, setting| set | setting)
 }
 
-const LINKS: [u32; 5] = [set::DEST_MAC, set::SOURCE_MAC, set::VLAN, set::PRIORITY, set::ETHER];
+const LINKS: [u32; 6] = [set::DEST_MAC, set::SOURCE_MAC, set::VLAN, set::PRIORITY, set::ETHER, set::SOCKET];
 const IPV4S: [u32; 3] = [set::SOURCE, set::DESTINATION, set::PROTOCOL];
 const IPV6S: [u32; 3] = [set::SOURCE6, set::DESTINATION6, set::PROTOCOL6];
 pub const SOMEIPS: [u32; 5] = [set::SERVICE, set::METHOD, set::VERSION, set::MESSAGE, set::CODE];
@@ -120,6 +129,7 @@ fn draw_rule(random: &mut Random) -> Rule {
         rule.kind = Kind::Tcp;
         rule.set = set::KIND | set::TRACKING | set::SOURCE_PORTS | some_of(&ips, 15, random);
         rule.places = random.pick(&[1, 2, 2, 3, 4, 8]);
+        rule.numbers = draw_numbers(rule.places, random);
     } else if form < 50 {
         rule.kind = Kind::Udp;
         rule.set = set::KIND | set::SERVICE | some_of(&SOMEIPS, 30, random) | some_of(&PORT_SETS, 30, random);
@@ -150,10 +160,13 @@ pub const STEADY: u16 = 443;
 const CERTAIN: usize = 6;
 
 fn certain_rules(number: u64, random: &mut Random) -> [Rule; CERTAIN] {
+    let places = random.pick(&[2, 3, 3, 4]);
     let steady = Rule {
         kind: Kind::Tcp,
         sports: Range { low: 443, high: 443 },
-        places: random.pick(&[2, 3, 3, 4]),
+        places,
+        // Either socket may hold some, and one of them all.
+        numbers: random.pick(&[[places, places], [places, places - 1], [places - 1, places]]),
         idle: random.pick(&[400, 1_000, 5_000]),
         set: set::KIND | set::SOURCE_PORTS | set::TRACKING,
         ..blank(random)

@@ -17,8 +17,16 @@ use records::Head;
 use records::Places;
 use table::words::TableWords;
 
+// One frame judged so many times on a socket, at readings that rise by a step.
+struct Many {
+    socket: u8,
+    times: u32,
+    step: u64,
+}
+
 pub(crate) fn call(
     letter: u8,
+    socket: u8,
     t: &TableWords,
     buf: &mut [u8; 65536],
     span: &mut [usize; 2],
@@ -29,14 +37,20 @@ pub(crate) fn call(
     out: &mut [u8; 65536],
     used: &mut usize,
 ) -> bool {
+    let once = Many {
+        socket,
+        times: 1,
+        step: 0,
+    };
     match letter {
         b'T' => take(buf, span, image, 0, TABLE),
         b'R' => load(buf, span, image, head, counts, places),
         b'C' => check(t, head, counts, places, out, used),
         b'F' => fresh(t, buf, span, image, head, counts, places, out, used),
         b'V' => switch(t, buf, span, image, head, counts, places, out, used),
-        b'J' => judge(t, 1, 0, buf, span, image, head, counts, places, out, used),
-        b'B' => pace(t, buf, span, image, head, counts, places, out, used),
+        b'S' => take(buf, span, image, 0, 1),
+        b'J' => judge(t, once, buf, span, image, head, counts, places, out, used),
+        b'B' => pace(t, socket, buf, span, image, head, counts, places, out, used),
         b'L' => layers_of(buf, span, image, out, used),
         b'P' => print::all_records(head, counts, places, out, used),
         _ => false,
@@ -109,9 +123,9 @@ fn switch(
     true
 }
 
-// One frame judged many times, at readings that rise by a step.
 fn pace(
     t: &TableWords,
+    socket: u8,
     buf: &mut [u8; 65536],
     span: &mut [usize; 2],
     image: &mut Image,
@@ -125,29 +139,20 @@ fn pace(
         return false;
     }
     let times = read32(image, 0);
-    let step = wide64(read32(image, 4));
     if times == 0 {
         return false;
     }
-    judge(
-        t,
+    let many = Many {
+        socket,
         times,
-        step,
-        buf,
-        span,
-        image,
-        head,
-        counts,
-        places,
-        out,
-        used,
-    )
+        step: wide64(read32(image, 4)),
+    };
+    judge(t, many, buf, span, image, head, counts, places, out, used)
 }
 
 fn judge(
     t: &TableWords,
-    times: u32,
-    step: u64,
+    m: Many,
     buf: &mut [u8; 65536],
     span: &mut [usize; 2],
     image: &mut Image,
@@ -171,19 +176,7 @@ fn judge(
     if !take(buf, span, image, 12, length) {
         return false;
     }
-    let reading = earlier(t, image, room, length, times, step, head, counts, places);
-    judged(
-        t,
-        image,
-        reading,
-        room,
-        length,
-        head,
-        counts,
-        places,
-        out,
-        used,
-    );
+    judged(t, m, image, room, length, head, counts, places, out, used);
     true
 }
 
@@ -198,11 +191,10 @@ fn later(reading: u64, step: u64) -> u64 {
 // All calls but the last; what is left is the reading of that one.
 fn earlier(
     t: &TableWords,
+    m: Many,
     image: &Image,
     room: usize,
     length: usize,
-    times: u32,
-    step: u64,
     head: &mut Head,
     counts: &mut Counts,
     places: &mut Places,
@@ -213,7 +205,7 @@ fn earlier(
     let bytes = &image[..];
     let end = 12 + length;
     let mut reading = read64(image, 0);
-    let mut left = times;
+    let mut left = m.times;
     while 1 < left {
         let mut space = [170u8; 512];
         firewall::judge(
@@ -221,21 +213,22 @@ fn earlier(
             head,
             counts,
             places,
+            m.socket,
             &bytes[12..end],
             reading,
             &mut space[0..room],
         );
-        reading = later(reading, step);
+        reading = later(reading, m.step);
         left -= 1;
     }
     reading
 }
 
-// The event space is 170 in every byte, so that a byte that was written shows.
+// All calls; the last answer is printed. The event space is 170 in every byte, so that a byte that was written shows.
 fn judged(
     t: &TableWords,
+    m: Many,
     image: &Image,
-    reading: u64,
     room: usize,
     length: usize,
     head: &mut Head,
@@ -247,6 +240,7 @@ fn judged(
     requires room { ⌜ room ≤ 512 ⌝ }
     requires length { ⌜ length ≤ 2048 ⌝ }
 {
+    let reading = earlier(t, m, image, room, length, head, counts, places);
     let mut space = [170u8; 512];
     let bytes = &image[..];
     let end = 12 + length;
@@ -255,6 +249,7 @@ fn judged(
         head,
         counts,
         places,
+        m.socket,
         &bytes[12..end],
         reading,
         &mut space[0..room],

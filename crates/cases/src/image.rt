@@ -42,6 +42,7 @@ use table::State;
 use table::Table;
 use table::TrackingSettings;
 use table::TransportSettings;
+use verdicts::CountWords;
 
 // The bytes after a call's letter: the longest are those of a record image.
 pub type Image = [u8; 33812];
@@ -167,6 +168,7 @@ fn link(r: &RuleImage, set: u32) -> LinkSettings {
         vlan: setting16(r, 19, set, 2),
         priority: setting8(r, 21, set, 3),
         ether: setting16(r, 23, set, 4),
+        socket: setting8(r, 96, set, 23),
     }
 }
 
@@ -215,6 +217,8 @@ fn tracking(r: &RuleImage, set: u32) -> TrackingSettings {
     TrackingSettings {
         places: setting8(r, 56, set, 18),
         limit: setting32(r, 57, set, 19),
+        number0: setting8(r, 97, set, 24),
+        number1: setting8(r, 98, set, 25),
     }
 }
 
@@ -299,11 +303,12 @@ fn place(s: &Image, at: usize) -> PlaceWords
 fn conversation(s: &Image, at: usize) -> Quad
     requires { ⌜ at + 64 ≤ 33812 ⌝ }
 {
+    let second = s[at + 50] != 0;
     let ports = read32(s, at + 9);
     if s[at + 17] == 0 {
-        return ipv4_quad(read32(s, at + 1), read32(s, at + 5), ports);
+        return ipv4_quad(second, read32(s, at + 1), read32(s, at + 5), ports);
     }
-    ipv6_quad(read128(s, at + 18), read128(s, at + 34), ports)
+    ipv6_quad(second, read128(s, at + 18), read128(s, at + 34), ports)
 }
 
 fn state_number(b: u8) -> u64 {
@@ -320,16 +325,27 @@ fn held(s: &Image, at: usize, places: &mut RulePlaces)
     }
 }
 
+// The image has the level of socket 1 behind the counts, since it came later.
+fn counts_at(s: &Image, at: usize) -> CountWords
+    requires { ⌜ at + 528 ≤ 33812 ⌝ }
+{
+    [
+        read32(s, at),
+        read32(s, at + 12),
+        read32(s, at + 4),
+        read32(s, at + 8),
+    ]
+}
+
 pub(crate) fn records_of(s: &Image, head: &mut Head, counts: &mut Counts, places: &mut Places) {
     *head = [read64(s, 0), wide64(read32(s, 8))];
     let mut k = 0;
     while k < 64 {
         let at = 20 + 528 * k;
-        let row = [read32(s, at), read32(s, at + 4), read32(s, at + 8)];
-        counts[k] = row;
+        counts[k] = counts_at(s, at);
         held(s, at, &mut places[k]);
         k += 1;
     }
-    let row = [0, read32(s, 12), read32(s, 16)];
+    let row = [0, 0, read32(s, 12), read32(s, 16)];
     counts[64] = row;
 }

@@ -20,7 +20,7 @@ use table::words::ROWS;
 use table::words::TableWords;
 use verdicts::COUNT_WORDS;
 
-// The calls one after the other, with the table and the records held from one to the next. Nothing says that an input
+// The calls one after the other, with the table, the records and the socket held from one to the next. Nothing says that an input
 // ends, so the turns are counted down from a number that no run uses up.
 fn run(buf: &mut [u8; 65536], image: &mut Image, out: &mut [u8; 65536], used: &mut usize) {
     let mut span = [0usize; 2];
@@ -28,6 +28,7 @@ fn run(buf: &mut [u8; 65536], image: &mut Image, out: &mut [u8; 65536], used: &m
     let mut counts: Counts = [[0; COUNT_WORDS]; COUNT_ROWS];
     let mut places: Places = [[[0; PLACE_WORDS]; PLACES]; RULES];
     let mut t: TableWords = [[0; ROW_WORDS]; ROWS];
+    let mut socket = 0u8;
     let mut turns = u64::MAX;
     while turns > 0 {
         let Got::Byte(letter) = input::next(buf, &mut span) else {
@@ -35,6 +36,7 @@ fn run(buf: &mut [u8; 65536], image: &mut Image, out: &mut [u8; 65536], used: &m
         };
         if !calls::call(
             letter,
+            socket,
             &t,
             buf,
             &mut span,
@@ -50,6 +52,9 @@ fn run(buf: &mut [u8; 65536], image: &mut Image, out: &mut [u8; 65536], used: &m
         }
         if letter == b'T' {
             lay::table(image::table_of(image), &mut t);
+        }
+        if letter == b'S' {
+            socket = image[0];
         }
         turns -= 1;
     }

@@ -48,7 +48,8 @@ use table::PLACES;
 use table::RULES;
 use verdicts::BLOCKED;
 use verdicts::CountWords;
-use verdicts::LEVEL;
+use verdicts::LEVEL0;
+use verdicts::LEVEL1;
 use verdicts::PASSED;
 
 fn byte(x: u8) -> u64 {
@@ -373,7 +374,8 @@ fn rule(
         b'p',
         &[
             count(k),
-            wide64(counts[LEVEL]),
+            wide64(counts[LEVEL0]),
+            wide64(counts[LEVEL1]),
             wide64(counts[PASSED]),
             wide64(counts[BLOCKED]),
         ],
@@ -396,7 +398,7 @@ fn conversations(k: usize, places: &RulePlaces, out: &mut [u8; 65536], used: &mu
 fn conversation(k: usize, j: usize, place: &PlaceWords, out: &mut [u8; 65536], used: &mut usize) {
     let q = quad(place);
     put(out, used, b'c');
-    row(out, used, b' ', b' ', &[count(k), count(j)]);
+    row(out, used, b' ', b' ', &[count(k), count(j), flag(q.second)]);
     address(source(q), out, used);
     address(destination(q), out, used);
     row(out, used, b' ', b' ', &ends(q, place));
@@ -434,5 +436,6 @@ fn empty(counts: &CountWords, places: &RulePlaces) -> bool {
         }
         j += 1;
     }
-    (counts[LEVEL] == 0) & (counts[PASSED] == 0) & (counts[BLOCKED] == 0)
+    let drained = (counts[LEVEL0] == 0) & (counts[LEVEL1] == 0);
+    drained & (counts[PASSED] == 0) & (counts[BLOCKED] == 0)
 }

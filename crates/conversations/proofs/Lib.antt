@@ -1,3 +1,4 @@
 pub mod ScanLaws
 pub mod TrackLaws
 pub mod KeptLaws
+pub mod ViewLaws

@@ -21,7 +21,7 @@ use Rattle.conversations.specs.declared.scan.Found.{Found}
 
 -- the struct of a free place, where a list has no more
 abbrev pub empty : Conversation
-empty = record { state = 0; quad = noQuad }
+empty = record { state = 0; quad = noQuad false }
 
 -- ---- the loader: the first i of a list are read
 

@@ -2,6 +2,7 @@
 -- Assumes nothing.
 use Prim.Native.Nat.{ℕ, _<_, _≤_}
 use mathlib.Core.Path.{_≡_, sym, ap, _∙_}
+use mathlib.Core.Bool.{Bool}
 use mathlib.Core.List.{List, []}
 use lib.ListN.{length, getD, set, length-map}
 use native.Mathlib.Omega.{arith}
@@ -14,8 +15,9 @@ use Rattle.flags.specs.declared.Phase.the-variants as phase
 use Rattle.flags.specs.declared.Next.{Next}
 use Rattle.conversations.specs.declared.Progress.{Progress}
 use Rattle.conversations.specs.declared.Progress.the-variants as progress
-use Rattle.places.specs.Places.{Place, free, placeOf, placesOf, heldAs, phaseOf}
-use Rattle.conversations.specs.Tracking.{Tracked, trackedAs, heldAt, freeAt, moved, opened, begun, stepOf}
+use Rattle.places.specs.Places.{Place, free, placeOf, placesOf, heldBy, heldAs, phaseOf}
+use Rattle.table.specs.Table.{numberOf}
+use Rattle.conversations.specs.Tracking.{Tracked, trackedAs, heldAt, freeAt, seatOf, moved, opened, begun, stepOf}
 use Rattle.flags.specs.Flags.{nextOf}
 use Rattle.numbers.proofs.Elements.{map-set}
 use Rattle.places.proofs.PlaceLaws.{place-at}
@@ -29,18 +31,31 @@ stored v ps i x p h =
 
 -- ---- a new conversation
 
-module _ (m : Room) (q : Quad) (ps : List (List ℕ)) (n i : ℕ) (many : n ≡ m .places) (found : i ≡ freeAt (placesOf ps) n) where
-  at : i ≡ freeAt (placesOf ps) (m .places)
-  at = found ∙ ap (freeAt (placesOf ps)) many
+-- the socket is below its number, or at it
+module _ (m : Room) (second : Bool) (ps : List Place) where
+  pub seat-below : heldBy second ps < numberOf m second → seatOf m second ps ≡ freeAt ps (m .places)
+  seat-below h = rw (lt-ltb (heldBy second ps) (numberOf m second) h)
 
+  pub seat-at : numberOf m second ≤ heldBy second ps → seatOf m second ps ≡ m .places
+  seat-at h = rw (le-ltb (heldBy second ps) (numberOf m second) h)
+
+  -- the same in the words of the code
+  module _ (n h k : ℕ) (many : n ≡ m .places) (held : h ≡ heldBy second ps) (number : k ≡ numberOf m second) where
+    pub seat-free : (i : ℕ) → h < k → i ≡ freeAt ps n → i ≡ seatOf m second ps
+    seat-free i l e = e ∙ ap (freeAt ps) many ∙ sym (seat-below (omega (arith, held, number)))
+
+    pub seat-none : k ≤ h → n ≡ seatOf m second ps
+    seat-none l = many ∙ sym (seat-at (omega (arith, held, number)))
+
+module _ (m : Room) (q : Quad) (ps : List (List ℕ)) (n i : ℕ) (many : n ≡ m .places) (found : i ≡ seatOf m (q .second) (placesOf ps)) where
   pub open-yes : (x : List ℕ) → i < n → placeOf x ≡ heldAs q phase.Opening → trackedAs progress.Holds (set ps i x) ≡ opened m q (placesOf ps)
   open-yes x h p =
-      rw (lt-ltb (freeAt (placesOf ps) (m .places)) (m .places) (omega (arith, at)))
+      rw (lt-ltb (seatOf m (q .second) (placesOf ps)) (m .places) (omega (arith, found)))
       (stored progress.Holds ps i x (heldAs q phase.Opening) p
-      ∙ ap (λ (k : ℕ). record { progress = progress.Holds; places = set (placesOf ps) k (heldAs q phase.Opening) }) at)
+      ∙ ap (λ (k : ℕ). record { progress = progress.Holds; places = set (placesOf ps) k (heldAs q phase.Opening) }) found)
 
   pub open-no : n ≤ i → trackedAs progress.NoPlaceFree ps ≡ opened m q (placesOf ps)
-  open-no h = rw (le-ltb (freeAt (placesOf ps) (m .places)) (m .places) (omega (arith, at)))
+  open-no h = rw (le-ltb (seatOf m (q .second) (placesOf ps)) (m .places) (omega (arith, found)))
 
 -- ---- the conversation is held, or not
 

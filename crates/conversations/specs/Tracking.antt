@@ -1,7 +1,7 @@
 -- Tracking: what a frame does to the places of the rule that decides it. Document 01, 'One frame, in this order', step 4.
 -- Assumes nothing.
-use Prim.Native.Nat.{ℕ}
-use mathlib.Core.Bool.{cond}
+use Prim.Native.Nat.{ℕ, _+_, _≤_}
+use mathlib.Core.Bool.{Bool, cond}
 use mathlib.Core.List.{List}
 use lib.ListN.{length, getD, set}
 use lib.Dec.{ltb}
@@ -10,7 +10,8 @@ use Rattle.table.specs.declared.Tracking.{Tracking}
 use Rattle.table.specs.declared.Tracking.the-variants as tracking
 use Rattle.table.specs.declared.Room.{Room}
 use Rattle.flags.specs.Flags.{nextOf}
-use Rattle.places.specs.Places.{Place, free, isFree, holds, phaseOf, heldAs, placesOf}
+use Rattle.table.specs.Table.{numberOf}
+use Rattle.places.specs.Places.{Place, free, isFree, holds, heldBy, phaseOf, heldAs, placesOf}
 use Rattle.places.specs.declared.Quad.{Quad}
 use Rattle.flags.specs.declared.FlagKind.{FlagKind}
 use Rattle.flags.specs.declared.FlagKind.the-variants as kind
@@ -22,6 +23,11 @@ use Rattle.flags.specs.declared.Next.the-variants as next
 use Rattle.conversations.specs.declared.Turn.{Turn}
 use Rattle.conversations.specs.declared.Progress.{Progress}
 use Rattle.conversations.specs.declared.Progress.the-variants as progress
+
+-- 6/12: "the two numbers together don't exceed the places", of a rule that tracks
+abbrev pub Together : Tracking → Type 0
+Together tracking.Unset = Unit {0}
+Together (tracking.Set m) = m .number0 + m .number1 ≤ m .places
 
 -- what tracking says of the frame, and the places after it. "Verdicts other than 0 change no conversation"
 pub record Tracked : Type 0 where
@@ -42,10 +48,15 @@ moved q ps i next.No = record { progress = progress.NotInState; places = ps }
 abbrev pub freeAt : List Place → ℕ → ℕ
 freeAt ps n = first (λ j. isFree (getD ps j free)) n
 
--- held as none: "Opening, or verdict 5 if no place is free"; "a new conversation takes the first free place, the others stay"
+-- the place for a new conversation of a socket, or the number of places where there is none. "a new conversation takes the first free place";
+-- 6/12: "a socket at its number gets verdict 5"
+abbrev pub seatOf : Room → Bool → List Place → ℕ
+seatOf m second ps = cond (ltb (heldBy second ps) (numberOf m second)) (freeAt ps (m .places)) (m .places)
+
+-- held as none: "Opening, or verdict 5 if no place is free"; "the others stay"
 abbrev pub opened : Room → Quad → List Place → Tracked
 opened m q ps =
-    let i = freeAt ps (m .places) in
+    let i = seatOf m (q .second) ps in
     cond (ltb i (m .places))
     (record { progress = progress.Holds; places = set ps i (heldAs q phase.Opening) })
     (record { progress = progress.NoPlaceFree; places = ps })

@@ -5,7 +5,7 @@ pub mod track;
 use flags::Flags;
 use places::Quad;
 
-// What tracking looks at in a frame.
+// What a rule looks at in a frame: its socket, which the quadruple has, and of a TCP segment the conversation and the flags. A frame without one has no conversation, on its socket.
 pub struct Turn {
     pub quad: Quad,
     pub flags: Flags,
@@ -17,5 +17,6 @@ pub enum Progress {
     WrongFlags,
     NoConversation,
     NotInState,
+    // No place is free, or the socket is at its number.
     NoPlaceFree,
 }

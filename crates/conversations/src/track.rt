@@ -3,7 +3,7 @@ ghost use mathlib.Core.Path.{_≡_};
 ghost use Prim.Native.Nat.{_<_, _≤_};
 ghost use Rattle.places.specs.Places.{placeOf, placesOf, free, heldAs};
 ghost use Rattle.table.specs.Table.{mostPlaces};
-ghost use Rattle.conversations.specs.Tracking.{heldAt, freeAt, moved, opened, begun, stepOf, trackedIn, trackedAs};
+ghost use Rattle.conversations.specs.Tracking.{heldAt, freeAt, seatOf, moved, opened, begun, stepOf, trackedIn, trackedAs};
 use crate::scan::find;
 use crate::*;
 use flags::FlagKind;
@@ -20,8 +20,10 @@ use places::place::phase_of;
 use places::place::place_words;
 use places::place::state;
 use places::shape::tell_places;
+use places::sockets::held_by;
 use table::PLACES;
 use table::Room;
+use table::settings::number_of;
 
 // ---- finding
 
@@ -38,8 +40,21 @@ fn find_free(n: usize, ps: &RulePlaces) -> usize
     requires { ⌜ n ≤ mostPlaces ⌝ }
     ensures { λ x. ⌜ x ≡ freeAt (placesOf (now (ps .entry))) n ⌝ }
 {
-    let found = find(no_quad(), ps);
+    let found = find(no_quad(false), ps);
     if found.free < n { found.free } else { n }
+}
+
+// The place for a new conversation of a socket, or as many as there are: none for a socket at its number.
+fn find_seat(m: Room, second: bool, ps: &RulePlaces) -> usize
+    requires { ⌜ m .places ≤ mostPlaces ⌝ }
+    ensures { λ x. ⌜ x ≡ seatOf m second (placesOf (now (ps .entry))) ⌝ }
+{
+    let n = numbers::count8(m.places);
+    if held_by(second, ps) < number_of(m, second) {
+        find_free(n, ps)
+    } else {
+        n
+    }
 }
 
 // ---- what a frame does to the places
@@ -74,14 +89,13 @@ fn move_place(q: Quad, n: Next, i: usize, ps: &mut RulePlaces) -> Progress
     }
 }
 
-// A new conversation takes the first free place.
+// A new conversation takes its place.
 fn open_place(m: Room, q: Quad, ps: &mut RulePlaces) -> Progress
     requires { ⌜ m .places ≤ mostPlaces ⌝ }
     ensures { λ v. ⌜ trackedAs v (now (ps .exit)) ≡ opened m q (placesOf (now (ps .entry))) ⌝ }
 {
-    let n = numbers::count8(m.places);
-    let i = find_free(n, ps);
-    if i < n {
+    let i = find_seat(m, q.second, ps);
+    if i < numbers::count8(m.places) {
         hold(q, Phase::Opening, &mut ps[i]);
         return Progress::Holds;
     }

@@ -33,23 +33,23 @@ const LAYERS: usize = 4;
 const WHOLE: usize = LAYERS + 1;
 
 // One more than the layers matched of an active rule, and 0 for one that is not active.
-fn score(r: &RuleWords, marks: u64, i: usize, s: &[u8], l: Layers) -> usize
+fn score(r: &RuleWords, marks: u64, i: usize, second: bool, s: &[u8], l: Layers) -> usize
     requires place { ⌜ i < mostRules ⌝ }
     requires inside { ⌜ Inside (now s) l ⌝ }
-    ensures { λ n. ⌜ n ≡ cond (markedAt marks i) (suc (leading (layerTests (ruleIn (now (r .entry))) (seen (now (s .entry)) l)))) 0 ⌝ }
+    ensures { λ n. ⌜ n ≡ cond (markedAt marks i) (suc (leading (layerTests (ruleIn (now (r .entry))) (seen second (now (s .entry)) l)))) 0 ⌝ }
 {
     if !marked(marks, i) {
         return 0;
     }
-    layers_matched(r, s, l) + 1
+    layers_matched(r, second, s, l) + 1
 }
 
 // The first of the active rules with the greatest score. None is above that of a rule that matches, so none behind one is looked at.
-fn best_fit(t: &TableWords, state: usize, s: &[u8], l: Layers) -> Best
+fn best_fit(t: &TableWords, state: usize, second: bool, s: &[u8], l: Layers) -> Best
     requires state { ⌜ state < mostStates ⌝ }
     requires rules { ⌜ tableIn (now t) .rulecount ≤ mostRules ⌝ }
     requires inside { ⌜ Inside (now s) l ⌝ }
-    ensures { λ r. ⌜ r ≡ bestOf (tableIn (now (t .entry))) state (seen (now (s .entry)) l) ⌝ }
+    ensures { λ r. ⌜ r ≡ bestOf (tableIn (now (t .entry))) state (seen second (now (s .entry)) l) ⌝ }
 {
     tell_table(*t);
     let marks = marks_of(t, state);
@@ -58,7 +58,7 @@ fn best_fit(t: &TableWords, state: usize, s: &[u8], l: Layers) -> Best
     let mut most = 0;
     let mut i = 0;
     while (i < count) & (most < WHOLE) {
-        let n = score(&t[i], marks, i, s, l);
+        let n = score(&t[i], marks, i, second, s, l);
         if most < n {
             place = i;
             most = n;
@@ -78,13 +78,13 @@ fn best_fit(t: &TableWords, state: usize, s: &[u8], l: Layers) -> Best
 }
 
 // Who decides is told by the best fit, so that one walk finds both: it decides where all four layers match.
-pub fn decide(t: &TableWords, state: usize, s: &[u8], l: Layers) -> Decision
+pub fn decide(t: &TableWords, state: usize, second: bool, s: &[u8], l: Layers) -> Decision
     requires state { ⌜ state < mostStates ⌝ }
     requires rules { ⌜ tableIn (now t) .rulecount ≤ mostRules ⌝ }
     requires inside { ⌜ Inside (now s) l ⌝ }
-    ensures { λ r. ⌜ r ≡ decisionOf (tableIn (now (t .entry))) state (seen (now (s .entry)) l) ⌝ }
+    ensures { λ r. ⌜ r ≡ decisionOf (tableIn (now (t .entry))) state (seen second (now (s .entry)) l) ⌝ }
 {
-    let best = best_fit(t, state, s, l);
+    let best = best_fit(t, state, second, s, l);
     let decider = if best.layer == LAYERS {
         best.place
     } else {

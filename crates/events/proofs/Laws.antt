@@ -3,6 +3,7 @@
 use Prim.Native.Nat.{ℕ, zero, suc, _+_, _-_, _≤_}
 use mathlib.Core.Path.{_≡_, refl, ap}
 use mathlib.Core.List.{List, [], _∷_, _++_, append-nil}
+use mathlib.Core.Bool.{Bool}
 use lib.ListN.{length, getD, take, drop, set, length-append, length-take, length-drop}
 use lib.Seq.{length-take-le, drop-drop}
 use native.Mathlib.Nat.{le-of-suc-le-suc, not-suc-le-zero}
@@ -84,18 +85,18 @@ someip-in s (someip.Present b) w =
     rw (walked s (b .payload) (b .plen) (messageAt s (b .payload)) (w .cut) (w .some) refl .is) refl
 
 pub event-parts :
-    (e : Event) (id : ℕ) (s : List ℕ) (l : Layers) → Inside s l
-    → eventBytes e id (seen s l) ≡ heading (numberOf e) id ++ array (lengthOf e - 4) (headerIn s (spanOf e l))
+    (e : Event) (id : ℕ) (second : Bool) (s : List ℕ) (l : Layers) → Inside s l
+    → eventBytes e id (seen second s l) ≡ heading (numberOf e) id ++ array (lengthOf e - 4) (headerIn s (spanOf e l))
 unfolding eventBytes array
-event-parts event.Ratelimit id s l w = simp append-nil
-event-parts event.StateTransition id s l w = refl
-event-parts event.MaxConnections id s l w = simp (append-nil, tcp-in)
-event-parts event.LinkMismatch id s l w = simp append-nil
-event-parts event.Ipv4Mismatch id s l w = simp (append-nil, ipv4-in)
-event-parts event.Ipv6Mismatch id s l w = simp (append-nil, ipv6-in)
-event-parts event.TcpMismatch id s l w = simp (append-nil, tcp-in)
-event-parts event.UdpMismatch id s l w = simp (append-nil, udp-in)
-event-parts event.SomeipMismatch id s l w = simp (append-nil, someip-in s (l .someip) (w .someip))
+event-parts event.Ratelimit id second s l w = simp append-nil
+event-parts event.StateTransition id second s l w = refl
+event-parts event.MaxConnections id second s l w = simp (append-nil, tcp-in)
+event-parts event.LinkMismatch id second s l w = simp append-nil
+event-parts event.Ipv4Mismatch id second s l w = simp (append-nil, ipv4-in)
+event-parts event.Ipv6Mismatch id second s l w = simp (append-nil, ipv6-in)
+event-parts event.TcpMismatch id second s l w = simp (append-nil, tcp-in)
+event-parts event.UdpMismatch id second s l w = simp (append-nil, udp-in)
+event-parts event.SomeipMismatch id second s l w = simp (append-nil, someip-in s (l .someip) (w .someip))
 
 pub shortest : (e : Event) → 4 ≤ lengthOf e
 shortest event.Ratelimit = omega arith
@@ -120,21 +121,21 @@ longest event.UdpMismatch = omega arith
 longest event.SomeipMismatch = omega arith
 
 -- how long each event is
-pub event-length : (e : Event) (id : ℕ) (s : List ℕ) (l : Layers) → length (eventBytes e id (seen s l)) ≡ lengthOf e
+pub event-length : (e : Event) (id : ℕ) (second : Bool) (s : List ℕ) (l : Layers) → length (eventBytes e id (seen second s l)) ≡ lengthOf e
 unfolding eventBytes
-event-length event.Ratelimit id s l = simp (append-nil, length-array)
-event-length event.StateTransition id s l = refl
-event-length event.MaxConnections id s l = simp (append-nil, length-array)
-event-length event.LinkMismatch id s l = simp (append-nil, length-array)
-event-length event.Ipv4Mismatch id s l = simp (append-nil, length-array)
-event-length event.Ipv6Mismatch id s l = simp (append-nil, length-array)
-event-length event.TcpMismatch id s l = simp (append-nil, length-array)
-event-length event.UdpMismatch id s l = simp (append-nil, length-array)
-event-length event.SomeipMismatch id s l = simp (append-nil, length-array)
+event-length event.Ratelimit id second s l = simp (append-nil, length-array)
+event-length event.StateTransition id second s l = refl
+event-length event.MaxConnections id second s l = simp (append-nil, length-array)
+event-length event.LinkMismatch id second s l = simp (append-nil, length-array)
+event-length event.Ipv4Mismatch id second s l = simp (append-nil, length-array)
+event-length event.Ipv6Mismatch id second s l = simp (append-nil, length-array)
+event-length event.TcpMismatch id second s l = simp (append-nil, length-array)
+event-length event.UdpMismatch id second s l = simp (append-nil, length-array)
+event-length event.SomeipMismatch id second s l = simp (append-nil, length-array)
 
 -- no event reaches the 256 bytes at which it would end
-pub event-bound : (e : Event) (id : ℕ) (s : List ℕ) (l : Layers) → length (eventBytes e id (seen s l)) ≤ longestEvent
-event-bound e id s l = rw (event-length e id s l) (longest e)
+pub event-bound : (e : Event) (id : ℕ) (second : Bool) (s : List ℕ) (l : Layers) → length (eventBytes e id (seen second s l)) ≤ longestEvent
+event-bound e id second s l = rw (event-length e id second s l) (longest e)
 
 -- ---- the header lies within the frame
 
@@ -176,20 +177,20 @@ span-fits event.SomeipMismatch s l h k = someip-fits s (l .someip) (h .someip)
 -- ---- the event written to the start of a space
 
 laid :
-    (e : Event) (id : ℕ) (s : List ℕ) (l : Layers) (space : List ℕ) (n : ℕ) → Inside s l → longestEvent ≤ length space → n ≡ lengthOf e - 4
+    (e : Event) (id : ℕ) (second : Bool) (s : List ℕ) (l : Layers) (space : List ℕ) (n : ℕ) → Inside s l → longestEvent ≤ length space → n ≡ lengthOf e - 4
     → heading (numberOf e) id ++ (array (length (take n (drop 4 space))) (headerIn s (spanOf e l)) ++ drop n (drop 4 space))
-    ≡ eventBytes e id (seen s l) ++ drop (length (eventBytes e id (seen s l))) space
-laid e id s l space n i h q =
+    ≡ eventBytes e id (seen second s l) ++ drop (length (eventBytes e id (seen second s l))) space
+laid e id second s l space n i h q =
     let k : n ≤ length (drop 4 space) = rw (length-drop 4 space) (omega (arith, longest e)) in
     let m : 4 + n ≡ lengthOf e = omega (arith, shortest e) in
-    rw (length-take-le n (drop 4 space) k, drop-drop n 4 space, m, event-length e id s l, event-parts e id s l i, ← q)
+    rw (length-take-le n (drop 4 space) k, drop-drop n 4 space, m, event-length e id second s l, event-parts e id second s l i, ← q)
 
 -- what is put between the heading and the rest of the space is the header's array
 pub event-laid :
-    (e : Event) (id : ℕ) (s : List ℕ) (l : Layers) (space w ys : List ℕ) (stop : ℕ) (p : Span) → Inside s l → longestEvent ≤ length space
+    (e : Event) (id : ℕ) (second : Bool) (s : List ℕ) (l : Layers) (space w ys : List ℕ) (stop : ℕ) (p : Span) → Inside s l → longestEvent ≤ length space
     → w ≡ heading (numberOf e) id ++ drop 4 space → stop ≡ lengthOf e → p ≡ spanOf e l
     → ys ≡ array (length (take (stop - 4) (drop 4 w))) (take (p .at + p .len - p .at) (drop (p .at) s))
-    → take 4 w ++ (ys ++ drop (stop - 4) (drop 4 w)) ≡ eventBytes e id (seen s l) ++ drop (length (eventBytes e id (seen s l))) space
-event-laid e id s l space w ys stop p i h a b c d =
+    → take 4 w ++ (ys ++ drop (stop - 4) (drop 4 w)) ≡ eventBytes e id (seen second s l) ++ drop (length (eventBytes e id (seen second s l))) space
+event-laid e id second s l space w ys stop p i h a b c d =
     let k : p .at + p .len - p .at ≡ p .len = omega arith in
-    rw (d, k, a, c) (laid e id s l space (stop - 4) i h (ap (λ n. n - 4) b))
+    rw (d, k, a, c) (laid e id second s l space (stop - 4) i h (ap (λ n. n - 4) b))

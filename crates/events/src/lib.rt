@@ -1,5 +1,6 @@
 // The event's bytes, row by row of 001 section 7.6.1.
 ghost use mathlib.Core.Path.{_≡_};
+ghost use mathlib.Core.Bool.{Bool};
 ghost use mathlib.Core.List.{_++_};
 ghost use Prim.Native.Nat.{_/_, _%_, _≤_};
 ghost use lib.ListN.{length, drop};
@@ -247,7 +248,7 @@ pub fn write(e: Event, id: u16, frame: &[u8], l: Layers, space: &mut [u8]) -> us
     requires inside { ⌜ Inside (now frame) l ⌝ }
     requires long { ⌜ least ≤ length (now frame) ⌝ }
     requires room { ⌜ longestEvent ≤ length (now space) ⌝ }
-    ensures { λ r. ⌜ Wrote (eventBytes e id (seen (now (frame .entry)) l)) (now (space .entry)) (now (space .exit)) r ⌝ }
+    ensures { λ r. ⌜ ((second : Bool) → Wrote (eventBytes e id (seen second (now (frame .entry)) l)) (now (space .entry)) (now (space .exit)) r) ⌝ }
 {
     head(e.number(), id, space);
     let span = span_of(e, l);

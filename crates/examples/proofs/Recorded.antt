@@ -20,6 +20,7 @@ use Rattle.matching.specs.Matching.{linkMatches, ipMatches, transportMatches, s
 use Rattle.verdicts.specs.Good.{recordTests, recordGood}
 use Rattle.records.specs.Good.{recordsGood}
 use Rattle.records.specs.Records.{Lent, recordsOf, wordsOf}
+use Rattle.places.specs.Places.{ofSocket}
 use Rattle.places.specs.Ageing.{agedPlace}
 use Rattle.verdicts.specs.Rule.{aged, decided, reacted}
 use Rattle.records.specs.Step.{freshOf, ticked, reactedAt, acted}
@@ -59,7 +60,7 @@ items-three false true = refl
 items-three false false = refl
 
 computed : (w : Lent) → byItems (run 0 w) threeItems textOfAll ≡ threeLines
-unfolding be onesAdd onesSum firstFrom allBelow tagged linkOf ipv4Tests ipv4Here packetAt ipv6Tests ipv6Here ipOf transportAt transportOf someipAt someipOf layersOf tooShort shownOf marked bucketOf trackingOf ruleTests freshId faulty marksGood statesGood faultOf decides deciderOf linkMatches ipMatches transportMatches someipMatches layerTests ruleMatches recordTests recordGood recordsGood recordsOf wordsOf agedPlace aged decided reacted freshOf ticked reactedAt acted array eventBytes eventFor outcomeOf startOf judgeOf tableT hex frame0806 decimalBy judged eventNumber lineOf runBy textOfAll threeLines
+unfolding be onesAdd onesSum firstFrom allBelow tagged linkOf ipv4Tests ipv4Here packetAt ipv6Tests ipv6Here ipOf transportAt transportOf someipAt someipOf layersOf tooShort shownOf marked bucketOf trackingOf ruleTests freshId faulty marksGood statesGood faultOf decides deciderOf linkMatches ipMatches transportMatches someipMatches layerTests ruleMatches recordTests recordGood recordsGood recordsOf wordsOf ofSocket agedPlace aged decided reacted freshOf ticked reactedAt acted array eventBytes eventFor outcomeOf startOf judgeOf tableT hex frame0806 decimalBy judged eventNumber lineOf runBy textOfAll threeLines
 computed w = refl
 
 pub three-frames : ThreeFrames

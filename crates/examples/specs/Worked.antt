@@ -37,7 +37,7 @@ opening = 1
 abbrev pub running : ℕ
 running = 2
 
--- What it looks at after a call: whether the frame shows IPv4, 1 or 0; the level of the rule at a table place;
+-- What it looks at after a call: whether the frame shows IPv4, 1 or 0; the level of socket 0 of the rule at a table place;
 -- state and age at a place for a conversation, by the rule's table place and its own
 pub data Look : Type 0 where
   ipv4-there : Look
@@ -64,26 +64,32 @@ pub record Example : Type 0 where
 unfoldable pub eventSpace : List ℕ
 eventSpace = copies eventRoom 0xEE
 
--- a frame at a reading: a refusal, or the answer's verdict, rule id and event length; the event; what to look at
+-- a frame at a reading: a refusal, or the answer's verdict, rule id and event length; the event; what to look at. 6/12: "M1 to M11 use socket 0"
 abbrev pub judged : ℕ → List ℕ → Said → List ℕ → List (Look × ℕ) → Step
 judged reading frame said event looks =
-    record { item = arrives (arrival reading frame) eventSpace; said = said; event = event; looks = looks }
+    record { item = arrives (arrival reading 0 frame) eventSpace; said = said; event = event; looks = looks }
 
--- the record of a rule without tracking: level, passed, blocked; of one that holds conversations; of the default
+-- the record of a rule without tracking: the level of socket 0 (that of socket 1 stays 0), passed, blocked; of one that holds conversations; of the default
 abbrev pub counts : ℕ → ℕ → ℕ → RuleRecord
-counts level passed blocked = record { level = level; passed = passed; blocked = blocked; places = copies mostPlaces free }
+counts level passed blocked = record { level0 = level; level1 = 0; passed = passed; blocked = blocked; places = copies mostPlaces free }
 
 abbrev pub holding : ℕ → ℕ → List Place → RuleRecord
-holding passed blocked places = record { level = 0; passed = passed; blocked = blocked; places = places ++ copies (mostPlaces - length places) free }
+holding passed blocked places = record {
+  level0 = 0;
+  level1 = 0;
+  passed = passed;
+  blocked = blocked;
+  places = places ++ copies (mostPlaces - length places) free;
+}
 
 abbrev pub byDefault : ℕ → ℕ → RuleRecord
-byDefault passed blocked = record { level = 0; passed = passed; blocked = blocked; places = [] }
+byDefault passed blocked = record { level0 = 0; level1 = 0; passed = passed; blocked = blocked; places = [] }
 
--- the conversation of 10.0.0.2 port 443 with 10.1.0.1 at a port, in a state, at an age
+-- the conversation of 10.0.0.2 port 443 with 10.1.0.1 at a port, on socket 0, in a state, at an age
 abbrev pub conversation : ℕ → ℕ → ℕ → Place
 conversation port state age = record {
   state = state;
-  quad = ipv4Quad 0x0a000002 0x0a010001 (443 * 65536 + port);
+  quad = ipv4Quad false 0x0a000002 0x0a010001 (443 * 65536 + port);
   age = age;
   unused = nothing;
 }
@@ -279,7 +285,7 @@ placeAt w i j = getD (recordAt (recordsOf w) i .places) j free
 
 abbrev pub valueOf : Item → Lent → Look → ℕ
 valueOf x w ipv4-there = ipv4In x
-valueOf x w (level-of i) = recordAt (recordsOf w) i .level
+valueOf x w (level-of i) = recordAt (recordsOf w) i .level0
 valueOf x w (state-of i j) = placeAt w i j .state
 valueOf x w (age-of i j) = placeAt w i j .age
 
@@ -323,12 +329,13 @@ expectations l = map (λ x. map (expectedRun x) (x .runs)) l
 -- ---- the page: what a person reads is these examples
 
 -- a call as a line shows it: its example's number, whether a fresh record comes first, the reading of that record and of the call,
--- the frame's bytes, what is said, and the start of the event: its number and the rule that it names
+-- the frame's socket and bytes, what is said, and the start of the event: its number and the rule that it names
 pub record Call : Type 0 where
   pub example : ℕ
   pub fresh : Bool
   pub start : ℕ
   pub reading : ℕ
+  pub socket : ℕ
   pub bytes : List ℕ
   pub said : Said
   pub heading : List ℕ
@@ -336,6 +343,10 @@ pub record Call : Type 0 where
 abbrev pub readingIn : Item → ℕ
 readingIn (arrives a space) = a .reading
 readingIn (switches state) = 0
+
+abbrev pub socketIn : Item → ℕ
+socketIn (arrives a space) = a .socket
+socketIn (switches state) = 0
 
 abbrev pub bytesIn : Item → List ℕ
 bytesIn (arrives a space) = a .bytes
@@ -347,6 +358,7 @@ callOf n start fresh x = record {
   fresh = fresh;
   start = start;
   reading = readingIn (x .item);
+  socket = socketIn (x .item);
   bytes = bytesIn (x .item);
   said = x .said;
   heading = take 4 (x .event);
@@ -380,6 +392,7 @@ shown l = record {
   fresh = l .fresh;
   start = 0;
   reading = l .reading;
+  socket = 0;
   bytes = frameBytes (l .frame);
   said = saidOf (l .expected);
   heading = headingOf (l .expected);

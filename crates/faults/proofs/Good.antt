@@ -13,7 +13,7 @@ use Rattle.numbers.proofs.Elements.{everyOf-any}
 use Rattle.table.specs.Settings.{Setting, unset, set, of8, of32, ofKind}
 use Rattle.table.specs.Table.{mostRules, mostStates, isAllow, isTcp, trackingFrom, trackingOf, ruleAt, stateAt, marked}
 use Rattle.ranges.specs.Numbers as setting
-use Rattle.ranges.specs.Ranges.{mayTrack, fromTo, knownAction, halfGood, Test, test, testGood, ruleTests, allGood}
+use Rattle.ranges.specs.Ranges.{mayTrack, fromTo, upTo, knownAction, allSet, partGood, Test, test, testGood, ruleTests, allGood}
 use Rattle.faults.specs.Faults.{freshId, testsAt, faulty, marksGood, stateGood, statesGood, ruleFault, tableFault, faultOf}
 use Rattle.table.specs.declared.Rule.{Rule}
 use Rattle.table.specs.declared.Room.{Room}
@@ -80,32 +80,48 @@ module _ (t : Table) (whole : faultOf t ≡ fault.Good) where
   good-id i h =
       leb-true (ruleAt t i .id) 65534 (and-both (leb (ruleAt t i .id) 65534) (freshId t i) (everyOf-any testGood noTest refl (testsAt t i) (good-rule i h) 0) .0)
 
--- "1-8 places and an idle limit of 1-600,000 ms"
+untracked : {P : Type 0} (m : Room) → tracking.Unset ≡ tracking.Set m → P
+untracked m e = let z : _≡_ {A = ℕ} 0 1 = cc in absurd (omega arith)
+
+-- "1-8 places and an idle limit of 1-600,000 ms"; 6/12: "how many each socket may hold, 0 to its places"
 tracks :
-    (x y : Setting ℕ) (may : Bool) (m : Room) → halfGood 8 x y may ≡ true → halfGood 600000 y x may ≡ true
-    → trackingFrom x y ≡ tracking.Set m
-    → ((1 ≤ m .places) × (m .places ≤ 8) × (1 ≤ m .limit) × (m .limit ≤ 600000)) × (may ≡ true)
-tracks unset y may m a b e = let z : _≡_ {A = ℕ} 0 1 = cc in absurd (omega arith)
-tracks (set p) unset may m a b e = let z : _≡_ {A = ℕ} 0 1 = cc in absurd (omega arith)
-tracks (set p) (set l) may m a b e =
-    let f : _≡_ {A = Room} (record { places = p; limit = l }) m = cc in
-    let g = and-both (fromTo 1 8 p && true) may a in
-    let h = and-both (fromTo 1 600000 l && true) may b in
-    let u = and-both (leb 1 p) (leb p 8) (and-both (fromTo 1 8 p) true (g .0) .0) in
-    let v = and-both (leb 1 l) (leb l 600000) (and-both (fromTo 1 600000 l) true (h .0) .0) in
-    ((rw (← f) (leb-true 1 p (u .0)), rw (← f) (leb-true p 8 (u .1)), rw (← f) (leb-true 1 l (v .0)), rw (← f) (leb-true l 600000 (v .1))), g .1)
+    (w x y z : Setting ℕ) (may : Bool) (m : Room) → partGood (fromTo 1 8) w may ≡ true → partGood (fromTo 1 600000) x may ≡ true
+    → partGood (upTo w) y may ≡ true → partGood (upTo w) z may ≡ true → trackingFrom w x y z ≡ tracking.Set m
+    → ((1 ≤ m .places) × (m .places ≤ 8) × (1 ≤ m .limit) × (m .limit ≤ 600000)) × ((m .number0 ≤ m .places) × (m .number1 ≤ m .places)) × (may ≡ true)
+tracks unset x y z may m a b c d e = untracked m e
+tracks (set p) unset y z may m a b c d e = untracked m e
+tracks (set p) (set l) unset z may m a b c d e = untracked m e
+tracks (set p) (set l) (set n) unset may m a b c d e = untracked m e
+tracks (set p) (set l) (set n) (set k) may m a b c d e =
+    let f : _≡_ {A = Room} (record { places = p; limit = l; number0 = n; number1 = k }) m = cc in
+    let g = and-both (fromTo 1 8 p) may a in
+    let u = and-both (leb 1 p) (leb p 8) (g .0) in
+    let v = and-both (leb 1 l) (leb l 600000) (and-both (fromTo 1 600000 l) may b .0) in
+    rw (← f) (
+      (leb-true 1 p (u .0), leb-true p 8 (u .1), leb-true 1 l (v .0), leb-true l 600000 (v .1)),
+      (leb-true n p (and-both (leb n p) may c .0), leb-true k p (and-both (leb k p) may d .0)),
+      g .1,
+    )
 
 module _ (fresh : Bool) (r : Rule) (all : allGood (ruleTests fresh r) ≡ true) (m : Room) (e : trackingOf r ≡ tracking.Set m) where
-  half : (i : ℕ) → testGood (getD (fromTracking r) i noTest) ≡ true
-  half i = everyOf-any testGood noTest refl (fromTracking r) (tracking-good fresh r all) i
+  part : (i : ℕ) → testGood (getD (fromTracking r) i noTest) ≡ true
+  part i = everyOf-any testGood noTest refl (fromTracking r) (tracking-good fresh r all) i
 
-  tracked : ((1 ≤ m .places) × (m .places ≤ 8) × (1 ≤ m .limit) × (m .limit ≤ 600000)) × (mayTrack r ≡ true)
+  tracked :
+      ((1 ≤ m .places) × (m .places ≤ 8) × (1 ≤ m .limit) × (m .limit ≤ 600000))
+      × ((m .number0 ≤ m .places) × (m .number1 ≤ m .places))
+      × (allSet (r .tracking) && mayTrack r ≡ true)
   unfolding trackingOf
-  tracked = tracks (of8 (r .tracking .places)) (of32 (r .tracking .limit)) (mayTrack r) m (half 0) (half 1) e
+  tracked =
+      let s = r .tracking in
+      tracks (of8 (s .places)) (of32 (s .limit)) (of8 (s .number0)) (of8 (s .number1)) (allSet s && mayTrack r) m (part 0) (part 1) (part 2) (part 3) e
 
   pub good-tracking : (1 ≤ m .places) × (m .places ≤ 8) × (1 ≤ m .limit) × (m .limit ≤ 600000)
   good-tracking = tracked .0
 
+  pub good-numbers : (m .number0 ≤ m .places) × (m .number1 ≤ m .places)
+  good-numbers = tracked .1
+
   -- only on an allow rule of kind TCP
   pub good-tracked : (isAllow (r .action) ≡ true) × (isTcp (ofKind (r .transport .kind)) ≡ true)
-  good-tracked = and-both (isAllow (r .action)) (isTcp (ofKind (r .transport .kind))) (tracked .1)
+  good-tracked = and-both (isAllow (r .action)) (isTcp (ofKind (r .transport .kind))) (and-both (allSet (r .tracking)) (mayTrack r) (tracked .2) .1)

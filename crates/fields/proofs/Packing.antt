@@ -288,6 +288,7 @@ module _ (r : Rule) (w : List ℕ) (h : Held r w) where
         vlan = setting16-read w linkWord (s .vlan) 2 8 (m 2 refl) (told (h .link) 1) i;
         priority = setting8-read w linkWord (s .priority) 3 24 (m 3 refl) (told (h .link) 2) i;
         ether = setting16-read w linkWord (s .ether) 4 32 (m 4 refl) (told (h .link) 3) i;
+        socket = setting8-read w linkWord (s .socket) 5 48 (m 5 refl) (told (h .link) 4) i;
       }
 
   ipv4-read : ipv4In w ≡ r .ipv4
@@ -350,6 +351,8 @@ module _ (r : Rule) (w : List ℕ) (h : Held r w) where
       λ i. record {
         places = setting8-read w trackingWord (s .places) 0 8 (m 0 refl) (told (h .tracking) 1) i;
         limit = setting32-read w trackingWord (s .limit) 1 16 (m 1 refl) (told (h .tracking) 2) i;
+        number0 = setting8-read w trackingWord (s .number0) 2 48 (m 2 refl) (told (h .tracking) 3) i;
+        number1 = setting8-read w trackingWord (s .number1) 3 56 (m 3 refl) (told (h .tracking) 4) i;
       }
 
   -- and the whole rule

@@ -79,6 +79,7 @@ linkFields s =
     ∷ (16, valueOr 0 (of16 (s .vlan)))
     ∷ (8, valueOr 0 (of8 (s .priority)))
     ∷ (16, valueOr 0 (of16 (s .ether)))
+    ∷ (8, valueOr 0 (of8 (s .socket)))
     ∷ []
 
 -- of the IP layer IPv4's settings, and above them IPv6's
@@ -122,6 +123,8 @@ trackingFields s =
     (8, marksOf (trackingUnset s))
     ∷ (8, valueOr 0 (of8 (s .places)))
     ∷ (32, valueOr 0 (of32 (s .limit)))
+    ∷ (8, valueOr 0 (of8 (s .number0)))
+    ∷ (8, valueOr 0 (of8 (s .number1)))
     ∷ []
 
 -- the addresses of the prefixes, and the ports

@@ -192,7 +192,11 @@ fn link_marks(s: LinkSettings) -> u8
     let vlan = s.vlan;
     let priority = s.priority;
     let ether = s.ether;
-    let m = mark(unset8(priority), mark(unset16(ether), 0));
+    let socket = s.socket;
+    let m = mark(
+        unset8(priority),
+        mark(unset16(ether), mark(unset8(socket), 0)),
+    );
     mark(
         unset64(destination),
         mark(unset64(source), mark(unset16(vlan), m)),
@@ -258,7 +262,10 @@ fn tracking_marks(s: TrackingSettings) -> u8
 {
     let places = s.places;
     let limit = s.limit;
-    mark(unset8(places), mark(unset32(limit), 0))
+    let number0 = s.number0;
+    let number1 = s.number1;
+    let m = mark(unset8(number0), mark(unset8(number1), 0));
+    mark(unset8(places), mark(unset32(limit), m))
 }
 
 // The words of a row, but for the MACs and the IPv6 addresses.
@@ -275,7 +282,11 @@ pub fn link_word(s: LinkSettings) -> u64
     let vlan = s.vlan;
     let priority = s.priority;
     let ether = s.ether;
-    let upper = field8(value8(priority), field16(value16(ether), 0));
+    let socket = s.socket;
+    let upper = field8(
+        value8(priority),
+        field16(value16(ether), field8(value8(socket), 0)),
+    );
     field8(link_marks(s), field16(value16(vlan), upper))
 }
 
@@ -364,8 +375,11 @@ pub fn tracking_word(s: TrackingSettings) -> u64
 {
     let places = s.places;
     let limit = s.limit;
+    let number0 = s.number0;
+    let number1 = s.number1;
+    let upper = field8(value8(number0), field8(value8(number1), 0));
     field8(
         tracking_marks(s),
-        field8(value8(places), field32(value32(limit), 0)),
+        field8(value8(places), field32(value32(limit), upper)),
     )
 }

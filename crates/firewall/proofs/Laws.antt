@@ -1,7 +1,7 @@
 -- The entry points' definitions, case by case.
 -- Assumes nothing.
 use Prim.Native.Nat.{ℕ, _<_, _≤_}
-use mathlib.Core.Path.{_≡_, refl, ap, _∙_}
+use mathlib.Core.Path.{_≡_, refl, sym, ap, _∙_}
 use mathlib.Core.Bool.{Bool, true, false, cond}
 use mathlib.Core.List.{List}
 use native.Mathlib.Omega.{arith}
@@ -13,7 +13,6 @@ use Rattle.layers.specs.declared.FrameRefusal.{FrameRefusal}
 use Rattle.layers.specs.declared.Shown.{Shown}
 use Rattle.layers.specs.declared.Shown.the-variants as shown
 use Rattle.layers.specs.Layers.{shownOf}
-use Rattle.layers.specs.Seen.{seen}
 use Rattle.table.specs.declared.Table.{Table}
 use Rattle.faults.specs.declared.AtFault.{AtFault}
 use Rattle.faults.specs.declared.Fault.{Fault}
@@ -24,7 +23,7 @@ use Rattle.records.specs.Good.{recordsGood}
 use Rattle.records.specs.Step.{freshOf, switchedTo}
 use Rattle.events.specs.Events.{eventRoom}
 use Rattle.steps.specs.declared.Answer.{Answer}
-use Rattle.steps.specs.Steps.{Arrival, outcomeOf, Stepped, stepped, steppedAs}
+use Rattle.steps.specs.Steps.{Arrival, seenOf, outcomeOf, Stepped, stepped, steppedAs}
 use Rattle.firewall.specs.declared.refusal.Refusal.{Refusal}
 use Rattle.steps.proofs.Laws.{words-are}
 use Rattle.firewall.specs.Firewall.{
@@ -36,7 +35,9 @@ use Rattle.firewall.specs.Firewall.{
   badTable,
   badRecord,
   noSuchState,
+  noSuchSocket,
   badFrame,
+  After,
   says,
   leaves,
   ifTable,
@@ -44,6 +45,7 @@ use Rattle.firewall.specs.Firewall.{
   startOf,
   switchOf,
   afterFrame,
+  afterSocket,
   judgeOf,
 }
 
@@ -137,9 +139,20 @@ module _ (t : Table) (w : Lent) (a : Arrival) (space : List ℕ) where
   unfolding checkOf judgeOf
   judge-refused r e = first-refused (λ x. says x w space) _ r (faultOf t) (recordsGood t (recordsOf w)) e
 
-  pub judge-frame : done ≡ checkOf t w → afterFrame t w a space (shownOf (a .bytes)) ≡ judgeOf t w a space
+  pub judge-socket : done ≡ checkOf t w → afterSocket t w a space ≡ judgeOf t w a space
   unfolding judgeOf
-  judge-frame e = let g = checked-good t w e in rw (g .0, g .1)
+  judge-socket e = let g = checked-good t w e in rw (g .0, g .1)
+
+  by-socket : Bool → After
+  by-socket above = cond above (says noSuchSocket w space) (afterFrame t w a space (shownOf (a .bytes)))
+
+  pub socket-refused : 1 < a .socket → says noSuchSocket w space ≡ afterSocket t w a space
+  unfolding by-socket
+  socket-refused h = ap by-socket (sym (lt-ltb 1 (a .socket) h))
+
+  pub socket-frame : a .socket ≤ 1 → afterFrame t w a space (shownOf (a .bytes)) ≡ afterSocket t w a space
+  unfolding by-socket
+  socket-frame h = ap by-socket (sym (le-ltb 1 (a .socket) h))
 
   pub frame-refused : (s : Shown) (f : FrameRefusal) → s ≡ shown.Refused f → says (badFrame f) w space ≡ afterFrame t w a space s
   frame-refused s f e = rw e
@@ -149,7 +162,7 @@ module _ (t : Table) (w : Lent) (a : Arrival) (space : List ℕ) where
 
   pub frame-judged :
       (s : Shown) (l : Layers) (r : Answer) (two : Lent) (left : List ℕ) → s ≡ shown.Shows l → eventRoom ≤ length space
-      → stepped r two left ≡ steppedAs (outcomeOf t (recordsOf w) (a .reading) (seen (a .bytes) l)) space
+      → stepped r two left ≡ steppedAs (outcomeOf t (recordsOf w) (a .reading) (seenOf a l)) space
       → says (answered (r .verdict .number) (r .rule) (r .length)) two left ≡ afterFrame t w a space s
   frame-judged s l r two left e h q =
       rw (e, le-ltb (length space) eventRoom h)

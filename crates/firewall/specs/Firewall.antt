@@ -1,4 +1,4 @@
--- The entry points: what each call says and leaves, for every input. Document 01, 'Verdicts, events, refusals'; change request 1/12.
+-- The entry points: what each call says and leaves, for every input. Document 01, 'Verdicts, events, refusals'; change requests 1/12 and 6/12.
 -- Assumes nothing.
 use Prim.Native.Nat.{ℕ}
 use mathlib.Core.List.{List}
@@ -77,6 +77,10 @@ badRecord = refused (plain 5)
 abbrev pub noSuchState : Said
 noSuchState = refused (plain 6)
 
+-- 6/12: "9 for a socket above 1"
+abbrev pub noSuchSocket : Said
+noSuchSocket = refused (plain 9)
+
 -- what a call says, and the words and the event space after it
 pub record After : Type 0 where
   pub said : Said
@@ -96,7 +100,7 @@ pub record AfterCall : Type 0 where
 abbrev pub leaves : Said → Lent → AfterCall
 leaves x w = record { said = x; words = w }
 
--- "Order: 4, 5, 6, 1, 2, 3, each where the call has that argument": a bad table is refused, or the rest goes on
+-- "Order: 4, 5, 6, 1, 2, 3, each where the call has that argument", and 9 "after 6": a bad table is refused, or the rest goes on
 abbrev pub ifTable : {A : Type 0} → Fault → (AtFault → A) → A → A
 ifTable (fault.At f) refuse rest = refuse f
 ifTable fault.Good refuse rest = rest
@@ -130,8 +134,13 @@ afterFrame t w a space (shown.Shows l) =
     cond (ltb (length space) eventRoom) (says noSpace w space)
     (judgedAs (outcomeOf t (recordsOf w) (a .reading) (seenOf a l)) space)
 
--- "4, 5", then the frame
+-- "9 .. after 6", then the frame
+abbrev pub afterSocket : Table → Lent → Arrival → List ℕ → After
+afterSocket t w a space =
+    cond (ltb 1 (a .socket)) (says noSuchSocket w space) (afterFrame t w a space (shownOf (a .bytes)))
+
+-- "4, 5", then the socket
 unfoldable pub judgeOf : Table → Lent → Arrival → List ℕ → After
 judgeOf t w a space =
     ifTable (faultOf t) (λ f. says (badTable f) w space)
-    (cond (recordsGood t (recordsOf w)) (afterFrame t w a space (shownOf (a .bytes))) (says badRecord w space))
+    (cond (recordsGood t (recordsOf w)) (afterSocket t w a space) (says badRecord w space))

@@ -19,6 +19,7 @@ ghost use Rattle.firewall.specs.Firewall.{
   startOf,
   switchOf,
   afterFrame,
+  afterSocket,
   judgeOf,
 };
 
@@ -125,6 +126,7 @@ fn judge_frame(
     head: &mut Head,
     counts: &mut Counts,
     places: &mut Places,
+    socket: u8,
     frame: &[u8],
     reading: u64,
     space: &mut [u8],
@@ -133,7 +135,7 @@ fn judge_frame(
     requires record { ⌜ recordsGood (tableIn (now t)) (recordsOf (lent (now head) (now counts) (now places))) ≡ true ⌝ }
     ensures { λ r. ⌜
         says (saidJudged r) (after head counts places) (now (space .exit))
-        ≡ afterFrame (tableIn (now (t .entry))) (before head counts places) (arrival reading (now (frame .entry))) (now (space .entry))
+        ≡ afterFrame (tableIn (now (t .entry))) (before head counts places) (arrival reading socket (now (frame .entry))) (now (space .entry))
         (shownOf (now (frame .entry)))
         ⌝ }
 {
@@ -145,27 +147,53 @@ fn judge_frame(
     if space.len() < ROOM {
         return Judged::Refused(Refusal::no_space());
     }
-    Judged::Answered(step(t, frame, l, reading, head, counts, places, space))
+    let second = socket == 1;
+    Judged::Answered(step(t, second, frame, l, reading, head, counts, places, space))
 }
 
-// One frame: its verdict, the deciding rule's id and the event's length.
+// The same of a frame whose socket is asked first.
+fn judge_socket(
+    t: &TableWords,
+    head: &mut Head,
+    counts: &mut Counts,
+    places: &mut Places,
+    socket: u8,
+    frame: &[u8],
+    reading: u64,
+    space: &mut [u8],
+) -> Judged
+    requires table { ⌜ faultOf (tableIn (now t)) ≡ fault.Good ⌝ }
+    requires record { ⌜ recordsGood (tableIn (now t)) (recordsOf (lent (now head) (now counts) (now places))) ≡ true ⌝ }
+    ensures { λ r. ⌜
+        says (saidJudged r) (after head counts places) (now (space .exit))
+        ≡ afterSocket (tableIn (now (t .entry))) (before head counts places) (arrival reading socket (now (frame .entry))) (now (space .entry))
+        ⌝ }
+{
+    if socket > 1 {
+        return Judged::Refused(Refusal::no_such_socket());
+    }
+    judge_frame(t, head, counts, places, socket, frame, reading, space)
+}
+
+// One frame that came on a socket: its verdict, the deciding rule's id and the event's length.
 pub fn judge(
     t: &TableWords,
     head: &mut Head,
     counts: &mut Counts,
     places: &mut Places,
+    socket: u8,
     frame: &[u8],
     reading: u64,
     space: &mut [u8],
 ) -> Judged
     ensures { λ r. ⌜
         says (saidJudged r) (after head counts places) (now (space .exit))
-        ≡ judgeOf (tableIn (now (t .entry))) (before head counts places) (arrival reading (now (frame .entry))) (now (space .entry))
+        ≡ judgeOf (tableIn (now (t .entry))) (before head counts places) (arrival reading socket (now (frame .entry))) (now (space .entry))
         ⌝ }
 {
     let checked = check(t, head, counts, places);
     let Checked::Refused(refusal) = checked else {
-        return judge_frame(t, head, counts, places, frame, reading, space);
+        return judge_socket(t, head, counts, places, socket, frame, reading, space);
     };
     Judged::Refused(refusal)
 }
@@ -176,16 +204,17 @@ pub fn judge_table(
     head: &mut Head,
     counts: &mut Counts,
     places: &mut Places,
+    socket: u8,
     frame: &[u8],
     reading: u64,
     space: &mut [u8],
 ) -> Judged
     ensures { λ r. ⌜
         says (saidJudged r) (after head counts places) (now (space .exit))
-        ≡ judgeOf t (before head counts places) (arrival reading (now (frame .entry))) (now (space .entry))
+        ≡ judgeOf t (before head counts places) (arrival reading socket (now (frame .entry))) (now (space .entry))
         ⌝ }
 {
     let mut w: TableWords = [[0; ROW_WORDS]; ROWS];
     lay::table(t, &mut w);
-    judge(&w, head, counts, places, frame, reading, space)
+    judge(&w, head, counts, places, socket, frame, reading, space)
 }

@@ -26,6 +26,8 @@ impl Refusal {
 
     pub const NO_SUCH_STATE: u8 = 6;
 
+    pub const NO_SUCH_SOCKET: u8 = 9;
+
     pub(crate) fn too_short() -> Refusal
         ensures { λ r. ⌜ r ≡ plain 1 ⌝ }
     {
@@ -82,6 +84,16 @@ impl Refusal {
     {
         Refusal {
             number: Refusal::NO_SUCH_STATE,
+            place: 0,
+            setting: 0,
+        }
+    }
+
+    pub(crate) fn no_such_socket() -> Refusal
+        ensures { λ r. ⌜ r ≡ plain 9 ⌝ }
+    {
+        Refusal {
+            number: Refusal::NO_SUCH_SOCKET,
             place: 0,
             setting: 0,
         }

@@ -2,7 +2,7 @@
 -- Assumes nothing.
 use Prim.Native.Nat.{ℕ, _/_, _%_, _<_}
 use mathlib.Core.Path.{_≡_, refl, ap, ap₂, sym, _∙_}
-use mathlib.Core.Bool.{true}
+use mathlib.Core.Bool.{true, false}
 use mathlib.Core.List.{List, [], _∷_}
 use lib.ListN.{getD}
 use lib.Dec.{eqb}
@@ -29,18 +29,18 @@ use Rattle.flags_page.specs.declared.row.Done.{Done}
 use Rattle.flags_page.specs.declared.row.Row.{Row}
 
 -- the words of a conversation that is held, read back
-as-held : (f : Phase) → placesOf (placeWords (withAge (heldAs noQuad f) 0) ∷ copies 7 (copies 6 0)) ≡ placesWith (held.As f)
+as-held : (f : Phase) → placesOf (placeWords (withAge (heldAs (noQuad false) f) 0) ∷ copies 7 (copies 6 0)) ≡ placesWith (held.As f)
 as-held phase.Opening = refl
 as-held phase.Running = refl
 as-held phase.Closing = refl
 
-pub holding : (f : Phase) (q : Quad) (w : List ℕ) → q ≡ noQuad → w ≡ placeWords (withAge (heldAs q f) 0) → placesOf (w ∷ copies 7 (copies 6 0)) ≡ placesWith (held.As f)
+pub holding : (f : Phase) (q : Quad) (w : List ℕ) → q ≡ noQuad false → w ≡ placeWords (withAge (heldAs q f) 0) → placesOf (w ∷ copies 7 (copies 6 0)) ≡ placesWith (held.As f)
 holding f q w e h = ap (λ v. placesOf (v ∷ copies 7 (copies 6 0))) (h ∙ ap (λ p. placeWords (withAge (heldAs p f) 0)) e) ∙ as-held f
 
 -- what tracking left, as the page shows it
 pub shown : (k : Flags) (h : Held) (q : Quad) (before after : List (List ℕ)) (p : Progress) (v s : ℕ)
     → placesOf before ≡ placesWith h
-    → q ≡ noQuad
+    → q ≡ noQuad false
     → trackedAs p after ≡ trackedIn room q (placesOf before) k
     → v ≡ verdictOf p
     → s ≡ placeOf (getD after 0 []) .state

@@ -53,7 +53,7 @@ fn places_with(h: Held) -> RulePlaces
     match h {
         Held::Nothing => places,
         Held::As(f) => {
-            places[0] = place_words(no_quad(), f, 0);
+            places[0] = place_words(no_quad(false), f, 0);
             places
         }
     }
@@ -71,7 +71,7 @@ fn verdict_of(p: Progress) -> u8
     }
 }
 
-// A rule with as many places as there can be tracks the frame.
+// A rule with as many places as there can be, all of them for each socket, tracks a frame of socket 0.
 fn tracked(flags: Flags, h: Held) -> Done
     ensures { λ r. ⌜ r ≡ doneOf flags h ⌝ }
 {
@@ -79,9 +79,11 @@ fn tracked(flags: Flags, h: Held) -> Done
     let room = Room {
         places: MOST_PLACES,
         limit: 1,
+        number0: MOST_PLACES,
+        number1: MOST_PLACES,
     };
     let turn = Turn {
-        quad: no_quad(),
+        quad: no_quad(false),
         flags,
     };
     let progress = track(room, turn, &mut places);

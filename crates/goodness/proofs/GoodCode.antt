@@ -1,25 +1,46 @@
 -- Laws of good places in the words of the code's branches.
 -- Assumes nothing.
 use Prim.Native.Nat.{ℕ, _+_, _*_, _/_, _%_, _^_, _<_, _≤_}
-use mathlib.Core.Path.{_≡_, refl, sym, ap, subst, _∙_}
+use mathlib.Core.Path.{_≡_, refl, sym, ap, _∙_}
 use mathlib.Core.Bool.{Bool, true, false, not, _&&_, _||_, false≢true}
 use mathlib.Core.List.{List, [], _∷_}
-use lib.ListN.{length, getD, List·getD-eq-default}
+use lib.ListN.{length, getD, drop, List·getD-eq-default}
+use lib.Seq.{getD-drop}
 use lib.Bits.{bitOr, or-add-and, and-le-l, and-le-r}
 use lib.Dec.{ltb, eqb}
 use native.Mathlib.Omega.{arith}
 use borrow.Author.Tests.{lt-ltb, le-ltb, ltb-true, eq-eqb, ne-eqb, eqb-true, not-true}
 use Rattle.numbers.specs.Lists.{every, allBelow}
-use Rattle.numbers.proofs.Lists.{and-both, and-true-true, every-at, below-at, below-all}
-use Rattle.places.specs.Places.{Place, free, isFree, kindNumber, placeOf, placesOf, holds}
-use Rattle.places.specs.Good.{isNothing, has32, fitsKind, isPlain, isZero, isBlank, clean, isFresh, placeGood, eachGood, repeats, alone, once, placesTests}
-use Rattle.places.specs.Good as laws
+use Rattle.numbers.proofs.Lists.{and-both, and-true-true, every-at, everyOf-all, below-at, below-all}
+use Rattle.places.specs.Places.{Place, free, isFree, kindNumber, placeOf, placesOf, holds, ofSocket, heldBy}
+use Rattle.places.specs.Good.{
+  noRoom,
+  isNothing,
+  has32,
+  fitsKind,
+  isPlain,
+  isZero,
+  isBlank,
+  clean,
+  young,
+  isFresh,
+  placeGood,
+  eachGood,
+  repeats,
+  alone,
+  once,
+  numberTests,
+  placesTests,
+}
+use Rattle.table.specs.Table.{socketNumber}
+use Rattle.table.specs.declared.Room.{Room}
 use Rattle.places.specs.declared.Quad.{Quad}
 use Rattle.addresses.specs.declared.Wide.{Wide}
+use Rattle.numbers.proofs.Counting.{count-within}
 use Rattle.numbers.proofs.Tests.{by-test, by-less, or-first, or-second, or-rest, or-zero, both-ways}
 use Rattle.places.proofs.PlaceLaws.{held-back, ports-back, place-at}
-use Rattle.places.proofs.HoldLaws.{free-holds}
-use Rattle.places.proofs.PlacesLaws.{at, once-single, PlacesGood, places-in, places-out}
+use Rattle.places.proofs.HoldLaws.{free-holds, free-of}
+use Rattle.places.proofs.PlacesLaws.{at, PlacesGood, places-in, places-out, none-held}
 
 -- ---- tests
 
@@ -75,26 +96,22 @@ module _ (w : List ℕ) where
   abbrev plain : Bool
   plain = isPlain (placeOf w)
 
-  pub plain-socket : (getD w 0 0 / 8 % 2 ≡ 0 → ⊥) → false ≡ plain
-  plain-socket n = rw (ne-eqb (getD w 0 0 / 8 % 2) 0 n)
+  pub plain-expected : (getD w 1 0 % 2 ^ 32 ≡ 0 → ⊥) → false ≡ plain
+  plain-expected n = rw (ne-eqb (getD w 1 0 % 2 ^ 32) 0 n)
 
-  module _ (s : getD w 0 0 / 8 % 2 ≡ 0) where
-    pub plain-expected : (getD w 1 0 % 2 ^ 32 ≡ 0 → ⊥) → false ≡ plain
-    plain-expected n = rw (eq-eqb (getD w 0 0 / 8 % 2) 0 s, ne-eqb (getD w 1 0 % 2 ^ 32) 0 n)
+  module _ (x : getD w 1 0 % 2 ^ 32 ≡ 0) where
+    -- the kind decides whether the addresses are looked at
+    plain-kind : (k : Bool) → eqb (getD w 0 0 / 4 % 2) 1 ≡ k → plain ≡ (k || (has32 (placeOf w .quad .source) && has32 (placeOf w .quad .destination)))
+    plain-kind k e = rw (eq-eqb (getD w 1 0 % 2 ^ 32) 0 x, e)
 
-    module _ (x : getD w 1 0 % 2 ^ 32 ≡ 0) where
-      -- the kind decides whether the addresses are looked at
-      plain-kind : (k : Bool) → eqb (getD w 0 0 / 4 % 2) 1 ≡ k → plain ≡ (k || (has32 (placeOf w .quad .source) && has32 (placeOf w .quad .destination)))
-      plain-kind k e = rw (eq-eqb (getD w 0 0 / 8 % 2) 0 s, eq-eqb (getD w 1 0 % 2 ^ 32) 0 x, e)
+    pub plain-ipv6 : getD w 0 0 / 4 % 2 ≡ 1 → true ≡ plain
+    plain-ipv6 k = sym (plain-kind true (eq-eqb (getD w 0 0 / 4 % 2) 1 k))
 
-      pub plain-ipv6 : getD w 0 0 / 4 % 2 ≡ 1 → true ≡ plain
-      plain-ipv6 k = sym (plain-kind true (eq-eqb (getD w 0 0 / 4 % 2) 1 k))
-
-      pub plain-ipv4 : (getD w 0 0 / 4 % 2 ≡ 1 → ⊥)
-          → eqb (bitOr (bitOr (getD w 2 0) (getD w 4 0)) (bitOr (getD w 3 0 / 2 ^ 32) (getD w 5 0 / 2 ^ 32))) 0 ≡ plain
-      plain-ipv4 k =
-          both-32 (placeOf w .quad .source) (placeOf w .quad .destination)
-          ∙ sym (plain-kind false (ne-eqb (getD w 0 0 / 4 % 2) 1 k))
+    pub plain-ipv4 : (getD w 0 0 / 4 % 2 ≡ 1 → ⊥)
+        → eqb (bitOr (bitOr (getD w 2 0) (getD w 4 0)) (bitOr (getD w 3 0 / 2 ^ 32) (getD w 5 0 / 2 ^ 32))) 0 ≡ plain
+    plain-ipv4 k =
+        both-32 (placeOf w .quad .source) (placeOf w .quad .destination)
+        ∙ sym (plain-kind false (ne-eqb (getD w 0 0 / 4 % 2) 1 k))
 
   -- as in a fresh record: six words are zero
   abbrev fresh : Bool
@@ -113,8 +130,10 @@ module _ (w : List ℕ) where
       λ i. isFresh (placeOf (e .0 i ∷ e .1 i ∷ d .1 i ∷ c .1 i ∷ b .1 i ∷ a .1 i ∷ []))
 
   -- a word is zero where its parts are
-  held-zero : getD w 0 0 % 4 ≡ 0 → eqb (getD w 0 0 / 4 % 2) 1 ≡ false → getD w 0 0 / 8 % 2 ≡ 0 → getD w 0 0 / 16 ≡ 0 → getD w 0 0 ≡ 0
-  held-zero s k o a = sym (held-back (getD w 0 0)) ∙ (λ i. s i + 4 * kindNumber (k i) + 8 * o i + 16 * a i)
+  held-zero :
+      getD w 0 0 % 4 ≡ 0 → eqb (getD w 0 0 / 4 % 2) 1 ≡ false → eqb (getD w 0 0 / 8 % 2) 1 ≡ false → getD w 0 0 / 16 ≡ 0
+      → getD w 0 0 ≡ 0
+  held-zero s k o a = sym (held-back (getD w 0 0)) ∙ (λ i. s i + 4 * kindNumber (k i) + 8 * socketNumber (o i) + 16 * a i)
 
   ports-zero : getD w 1 0 % 2 ^ 32 ≡ 0 → getD w 1 0 / 2 ^ 32 ≡ 0 → getD w 1 0 ≡ 0
   ports-zero x y = sym (ports-back (getD w 1 0)) ∙ (λ i. x i + 2 ^ 32 * y i)
@@ -124,18 +143,18 @@ module _ (w : List ℕ) where
       let f = and-both (isFree (placeOf w)) (clean (placeOf w)) h in
       let d = and-both (isPlain (placeOf w)) (not (isFree (placeOf w)) || isBlank (placeOf w)) (f .1) in
       let n = and-both (isNothing (placeOf w .unused)) (fitsKind (placeOf w .quad)) (d .0) .0 in
-      let u = and-both (eqb (getD w 0 0 / 8 % 2) 0) (eqb (getD w 1 0 % 2 ^ 32) 0) n in
       let b = or-rest (not (isFree (placeOf w))) (isBlank (placeOf w)) (d .1) (ap not (f .0)) in
-      let s = zero-words (placeOf w .quad .source) (every-at blanks 1 b) in
-      let t = zero-words (placeOf w .quad .destination) (every-at blanks 2 b) in
+      let s = zero-words (placeOf w .quad .source) (every-at blanks 2 b) in
+      let t = zero-words (placeOf w .quad .destination) (every-at blanks 3 b) in
       let x =
-      held-zero (eqb-true _ 0 (f .0)) (not-true _ (every-at blanks 0 b)) (eqb-true _ 0 (u .0)) (eqb-true _ 0 (every-at blanks 4 b)) in
-      let y = ports-zero (eqb-true _ 0 (u .1)) (eqb-true _ 0 (every-at blanks 3 b)) in
+      held-zero (eqb-true _ 0 (f .0)) (not-true _ (every-at blanks 1 b)) (not-true _ (every-at blanks 0 b)) (eqb-true _ 0 (every-at blanks 5 b)) in
+      let y = ports-zero (eqb-true _ 0 n) (eqb-true _ 0 (every-at blanks 4 b)) in
       λ i. bitOr (bitOr (bitOr (bitOr (bitOr (x i) (y i)) (s .0 i)) (s .1 i)) (t .0 i)) (t .1 i)
     where
       blanks : List Bool
       blanks =
-          not (eqb (getD w 0 0 / 4 % 2) 1)
+          not (eqb (getD w 0 0 / 8 % 2) 1)
+          ∷ not (eqb (getD w 0 0 / 4 % 2) 1)
           ∷ isZero (placeOf w .quad .source)
           ∷ isZero (placeOf w .quad .destination)
           ∷ eqb (getD w 1 0 / 2 ^ 32) 0
@@ -184,77 +203,71 @@ module _ (ws : List (List ℕ)) (j : ℕ) where
 
 -- ---- the places of a rule
 
-module _ (n limit : ℕ) (ps : List Place) (many : length ps ≡ 8) where
-  tests-in : every (placesTests n limit ps) ≡ true → PlacesGood n limit ps
-  tests-in e =
-      places-in n limit ps (every-at (placesTests n limit ps) 0 e) (every-at (placesTests n limit ps) 1 e) (every-at (placesTests n limit ps) 2 e)
-      (every-at (placesTests n limit ps) 3 e)
-
-  tests-out : PlacesGood n limit ps → every (placesTests n limit ps) ≡ true
-  tests-out g =
-      let t = places-out n limit ps g in
-      and-true-true (t .spare) (and-true-true (t .single) (and-true-true (t .young) (and-true-true (t .clean) refl)))
-
-  everywhere : (P : Place → Type 0) → P free → ((i : ℕ) → i < 8 → P (at ps i)) → (i : ℕ) → P (at ps i)
-  everywhere P f h i = by-less i 8 (h i) (λ m. subst P (sym (List·getD-eq-default ps free (omega arith))) f)
-
+module _ (m : Room) (ps : List Place) where
   -- what is tested at one place
   abbrev goodAt : ℕ → Bool
-  goodAt j = placeGood (ltb j n) limit (at ps j)
+  goodAt j = placeGood (ltb j (m .places)) (m .limit) (at ps j)
 
-  place-in : PlacesGood n limit ps → (j : ℕ) → goodAt j ≡ true
+  place-in : PlacesGood m ps → (j : ℕ) → goodAt j ≡ true
   place-in g j =
       and-true-true (g .clean j)
       (by-test (isFree (at ps j)) (or-first (isFree (at ps j)) _)
-      (λ e. or-second (isFree (at ps j)) _ (and-true-true (within e) (or-rest (isFree (at ps j)) (ltb (at ps j .age) limit) (g .young j) e))))
+      (λ e. or-second (isFree (at ps j)) _ (and-true-true (within e) (or-rest (isFree (at ps j)) (ltb (at ps j .age) (m .limit)) (g .young j) e))))
     where
-      within : isFree (at ps j) ≡ false → ltb j n ≡ true
-      within e = by-less j n (lt-ltb j n) (λ k. absurd (false≢true (sym e ∙ g .spare j k)))
+      within : isFree (at ps j) ≡ false → ltb j (m .places) ≡ true
+      within e = by-less j (m .places) (lt-ltb j (m .places)) (λ k. absurd (false≢true (sym e ∙ g .spare j k)))
 
-  place-out : eachGood n limit ps ≡ true → once ps ≡ true → PlacesGood n limit ps
-  place-out h o = record {
-    spare = λ i k. by-less i 8 (spare i k) (λ m. ap isFree (List·getD-eq-default ps free (omega arith)));
-    single = once-single ps o;
-    young = everywhere (λ p. laws.young limit p ≡ true) refl young;
-    clean = everywhere (λ p. clean p ≡ true) refl (λ i m. and-both (clean (at ps i)) _ (tests i m) .0);
-  }
-    where
-      tests : (j : ℕ) → j < 8 → goodAt j ≡ true
-      tests j m = below-at goodAt 8 j h m
-
-      held : (j : ℕ) → j < 8 → isFree (at ps j) ≡ false → (ltb j n ≡ true) × (ltb (at ps j .age) limit ≡ true)
-      held j m e = and-both _ _ (or-rest (isFree (at ps j)) _ (and-both (clean (at ps j)) _ (tests j m) .1) e)
-
-      spare : (i : ℕ) → n ≤ i → i < 8 → isFree (at ps i) ≡ true
-      spare i k m = by-test (isFree (at ps i)) (λ e. e) (λ e. absurd (false≢true (sym (le-ltb i n k) ∙ held i m e .0)))
-
-      young : (i : ℕ) → i < 8 → laws.young limit (at ps i) ≡ true
-      young i m = by-test (isFree (at ps i)) (or-first (isFree (at ps i)) _) (λ e. or-second (isFree (at ps i)) _ (held i m e .1))
-
-  -- the branches: a place fails by itself, or all pass and are told apart
-  pub room-no : eachGood n limit ps ≡ false → false ≡ every (placesTests n limit ps)
+  -- the branches: a place fails by itself, or all pass and the tests of all together decide
+  pub room-no : eachGood (m .places) (m .limit) ps ≡ false → false ≡ every (placesTests m ps)
   room-no f =
-      by-test (every (placesTests n limit ps))
-      (λ e. absurd (false≢true (sym f ∙ below-all goodAt 8 (λ j m. place-in (tests-in e) j))))
+      by-test (every (placesTests m ps))
+      (λ e. absurd (false≢true (sym f ∙ below-all goodAt 8 (λ j k. place-in (places-in m ps e) j))))
       (λ e. sym e)
 
-  pub room-yes : eachGood n limit ps ≡ true → once ps ≡ every (placesTests n limit ps)
-  room-yes h =
-      both-ways (once ps) (every (placesTests n limit ps)) (λ o. tests-out (place-out h o))
-      (λ e. places-out n limit ps (tests-in e) .single)
+  module _ (many : length ps ≡ 8) (h : eachGood (m .places) (m .limit) ps ≡ true) where
+    each : (j : ℕ) → goodAt j ≡ true
+    each j =
+        by-less j 8 (below-at goodAt 8 j h)
+        (λ k. ap (placeGood (ltb j (m .places)) (m .limit)) (List·getD-eq-default ps free (omega arith)))
+
+    held : (j : ℕ) → isFree (at ps j) ≡ false → (ltb j (m .places) ≡ true) × (ltb (at ps j .age) (m .limit) ≡ true)
+    held j e = and-both _ _ (or-rest (isFree (at ps j)) _ (and-both (clean (at ps j)) _ (each j) .1) e)
+
+    below : (j : ℕ) → young (m .limit) (at ps j) ≡ true
+    below j = by-test (isFree (at ps j)) (or-first (isFree (at ps j)) _) (λ e. or-second (isFree (at ps j)) _ (held j e .1))
+
+    spare : (j : ℕ) → m .places ≤ j → isFree (at ps j) ≡ true
+    spare j k = by-test (isFree (at ps j)) (λ e. e) (λ e. absurd (false≢true (sym (le-ltb j (m .places) k) ∙ held j e .0)))
+
+    -- no socket holds more places than the rule has
+    pub held-within : (k : Bool) → heldBy k ps ≤ m .places
+    held-within k = count-within (ofSocket k) free (m .places) ps (λ j n. free-of k (at ps j) (spare j n))
+
+    pub room-yes : (a b : Bool) → a ≡ once ps → b ≡ every (numberTests m ps) → (a && b) ≡ every (placesTests m ps)
+    room-yes a b d e =
+        rw (
+          everyOf-all isFree free (drop (m .places) ps)
+              (λ i k. ap isFree (getD-drop (m .places) ps i free) ∙ spare (m .places + i) (omega arith)),
+          everyOf-all (young (m .limit)) free ps (λ j k. below j),
+          everyOf-all clean free ps (λ j k. and-both (clean (at ps j)) _ (each j) .0),
+          d,
+          e,
+        )
 
 -- places as in a fresh record are good for every rule
-pub room-empty : (n limit : ℕ) (ps : List Place) → length ps ≡ 8 → every (placesTests 0 0 ps) ≡ true → true ≡ every (placesTests n limit ps)
-room-empty n limit ps k e =
-    let g = tests-in 0 0 ps k e in
-    sym
-    (tests-out n limit ps k
-    (record {
-      spare = λ i m. g .spare i (omega arith);
-      single = g .single;
-      young = λ i. or-first (isFree (at ps i)) _ (g .spare i (omega arith));
-      clean = g .clean;
-    }))
+fresh-good : (m : Room) (ps : List Place) → ((i : ℕ) → isFree (at ps i) ≡ true) → ((i : ℕ) → clean (at ps i) ≡ true) → PlacesGood m ps
+fresh-good m ps f c = record {
+  spare = λ i k. f i;
+  single = λ q i j a b. absurd (false≢true (sym (free-holds q (at ps i) (f i)) ∙ a));
+  young = λ i. or-first (isFree (at ps i)) _ (f i);
+  clean = c;
+  numbers = λ k. none-held ps f k _;
+}
+
+pub room-empty : (m : Room) (ps : List Place) → every (placesTests noRoom ps) ≡ true → true ≡ every (placesTests m ps)
+room-empty m ps e =
+    let g = places-in noRoom ps e in
+    sym (places-out m ps (fresh-good m ps (λ i. g .spare i (omega arith)) (g .clean)))
 
 -- the code's test of one place
 pub each-turn :
@@ -270,18 +283,13 @@ each-turn n k limit ws j a e f =
 abbrev pub freshAt : List Place → ℕ → Bool
 freshAt ps j = isFresh (at ps j)
 
-pub empty-is : (ps : List Place) → length ps ≡ 8 → allBelow (freshAt ps) 8 ≡ every (placesTests 0 0 ps)
+pub empty-is : (ps : List Place) → length ps ≡ 8 → allBelow (freshAt ps) 8 ≡ every (placesTests noRoom ps)
 empty-is ps n =
-    both-ways (allBelow (freshAt ps) 8) (every (placesTests 0 0 ps)) (λ h. tests-out 0 0 ps n (good h))
-    (λ e. below-all (freshAt ps) 8 (λ j m. let g = tests-in 0 0 ps n e in and-true-true (g .spare j (omega arith)) (g .clean j)))
+    both-ways (allBelow (freshAt ps) 8) (every (placesTests noRoom ps))
+    (λ h. places-out noRoom ps (fresh-good noRoom ps (λ i. both h i .0) (λ i. both h i .1)))
+    (λ e. below-all (freshAt ps) 8 (λ j m. let g = places-in noRoom ps e in and-true-true (g .spare j (omega arith)) (g .clean j)))
   where
-    good : allBelow (freshAt ps) 8 ≡ true → PlacesGood 0 0 ps
-    good h =
-        let f : (i : ℕ) → isFree (at ps i) ≡ true =
-        everywhere 0 0 ps n (λ p. isFree p ≡ true) refl (λ i m. and-both (isFree (at ps i)) _ (below-at (freshAt ps) 8 i h m) .0) in
-        record {
-          spare = λ i k. f i;
-          single = λ q i j a b. absurd (false≢true (sym (free-holds q (at ps i) (f i)) ∙ a));
-          young = λ i. or-first (isFree (at ps i)) _ (f i);
-          clean = everywhere 0 0 ps n (λ p. clean p ≡ true) refl (λ i m. and-both (isFree (at ps i)) _ (below-at (freshAt ps) 8 i h m) .1);
-        }
+    both : allBelow (freshAt ps) 8 ≡ true → (i : ℕ) → (isFree (at ps i) ≡ true) × (clean (at ps i) ≡ true)
+    both h i =
+        by-less i 8 (λ m. and-both (isFree (at ps i)) (clean (at ps i)) (below-at (freshAt ps) 8 i h m))
+        (λ m. let o = List·getD-eq-default ps free (omega arith) in (ap isFree o, ap clean o))

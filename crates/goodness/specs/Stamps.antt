@@ -12,7 +12,7 @@ use Rattle.places.specs.Places.{Place, free, isFree}
 use Rattle.table.specs.Table.{mostPlaces}
 use Rattle.places.specs.declared.Quad.{Quad}
 
--- the stamp of a conversation: of all its bits, in 64
+-- the stamp of a conversation: of all its bits but kind and socket, in 64; a quadruple on both sockets has one stamp, and is compared in full
 unfoldable pub stampOf : Quad → ℕ
 stampOf q =
     bitXor

@@ -1,17 +1,19 @@
 // Are the places of one rule good?
 ghost use mathlib.Core.Path.{_≡_};
+ghost use mathlib.Core.Bool.{Bool};
 ghost use Prim.Native.Nat.{_<_, _≤_};
 ghost use lib.Dec.{eqb};
 ghost use Rattle.numbers.specs.Lists.{every, allBelow};
 ghost use Rattle.table.specs.Table.{mostRules, mostPlaces};
-ghost use Rattle.places.specs.Places.{placeOf, placesOf};
-ghost use Rattle.places.specs.Good.{isFresh, isPlain, placeGood, eachGood, alone, once, placesTests, isEmpty, emptyFrom};
+ghost use Rattle.places.specs.Places.{placeOf, placesOf, heldBy};
+ghost use Rattle.places.specs.Good.{isFresh, isPlain, placeGood, eachGood, alone, once, numberTests, placesTests, isEmpty, emptyFrom};
 
 mod stamps;
 
 use places::place::is_held_by;
 use places::place::quad;
 use places::shape::*;
+use places::sockets::held;
 use places::*;
 use stamps::are_distinct;
 use stamps::stamps;
@@ -31,9 +33,6 @@ fn filled(p: &PlaceWords) -> u64
 fn is_plain(p: &PlaceWords) -> bool
     ensures { λ r. ⌜ r ≡ isPlain (placeOf (now (p .entry))) ⌝ }
 {
-    if p[HELD] / SOCKET_BIT % 2 != 0 {
-        return false;
-    }
     if p[BOTH_PORTS] % HALF != 0 {
         return false;
     }
@@ -135,6 +134,18 @@ fn good_each(m: Room, ps: &RulePlaces) -> bool
     true
 }
 
+// No socket holds more than its number. Where each may hold every place none can, and nothing is counted.
+fn good_numbers(m: Room, ps: &RulePlaces) -> bool
+    requires { ⌜ ((k : Bool) → heldBy k (placesOf (now ps)) ≤ m .places) ⌝ }
+    ensures { λ r. ⌜ r ≡ every (numberTests m (placesOf (now (ps .entry)))) ⌝ }
+{
+    if (m.places <= m.number0) & (m.places <= m.number1) {
+        return true;
+    }
+    let h = held(ps);
+    (h.first <= m.number0) & (h.second <= m.number1)
+}
+
 // Conversations are compared only where two stamps are alike.
 fn are_alone(ps: &RulePlaces) -> bool
     ensures { λ r. ⌜ r ≡ once (placesOf (now (ps .entry))) ⌝ }
@@ -157,7 +168,7 @@ fn are_alone(ps: &RulePlaces) -> bool
 
 // The places of a rule that tracks. Where the first is free all may be, which one look tells.
 pub fn good_room(m: Room, ps: &RulePlaces) -> bool
-    ensures { λ r. ⌜ r ≡ every (placesTests (m .places) (m .limit) (placesOf (now (ps .entry)))) ⌝ }
+    ensures { λ r. ⌜ r ≡ every (placesTests m (placesOf (now (ps .entry)))) ⌝ }
 {
     tell_places(*ps);
     if ps[0][HELD] == 0 {
@@ -166,7 +177,7 @@ pub fn good_room(m: Room, ps: &RulePlaces) -> bool
         }
     }
     if good_each(m, ps) {
-        are_alone(ps)
+        are_alone(ps) & good_numbers(m, ps)
     } else {
         false
     }

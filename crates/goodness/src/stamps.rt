@@ -15,7 +15,7 @@ const KEPT: u64 = 281474976710656;
 
 const LIFT: u64 = 65536;
 
-// All bits go in: of IPv4 conversations with one destination no two have one stamp. Who chooses IPv6 addresses can choose such, which costs time and no answer.
+// All bits go in but kind and socket: a quadruple on both sockets has one stamp and is compared in full. Of a socket's IPv4 conversations with one destination no two have one; who chooses IPv6 addresses can choose such, which costs time and no answer.
 fn stamp(p: &PlaceWords) -> u64
     ensures { λ r. ⌜ r ≡ stampOf (placeOf (now (p .entry)) .quad) ⌝ }
 {

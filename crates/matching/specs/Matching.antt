@@ -1,4 +1,4 @@
--- Does a layer match, and does a rule. Document 01, 'Rules and vehicle states'; change requests 2/12 and 3/12.
+-- Does a layer match, and does a rule. Document 01, 'Rules and vehicle states'; change requests 2/12, 3/12 and 6/12.
 -- s is the frame's bytes.
 -- Assumes nothing.
 use Prim.Native.Nat.{ℕ}
@@ -29,6 +29,7 @@ use Rattle.table.specs.declared.Ipv6Settings.{Ipv6Settings}
 use Rattle.table.specs.declared.TransportSettings.{TransportSettings}
 use Rattle.table.specs.declared.SomeipSettings.{SomeipSettings}
 use Rattle.table.specs.declared.Rule.{Rule}
+use Rattle.table.specs.Table.{socketNumber}
 use Rattle.table.specs.Marks.{ipv4Unset, ipv6Unset, ipUnset, transportUnset, someipUnset}
 use Rattle.table.specs.Settings.{
   of8,
@@ -51,15 +52,17 @@ abbrev pub tagTests : LinkSettings → Tag → List Bool
 tagTests r tag.Untagged = isUnset (of16 (r .vlan)) ∷ isUnset (of8 (r .priority)) ∷ []
 tagTests r (tag.Tagged priority vlan) = agrees eqb (of16 (r .vlan)) vlan ∷ agrees eqb (of8 (r .priority)) priority ∷ []
 
-abbrev pub linkTests : LinkSettings → Link → List Bool
-linkTests r x =
+-- 6/12: "A rule may name a socket, 0 or 1, or leave it unset; it belongs to the link layer"
+abbrev pub linkTests : LinkSettings → Bool → Link → List Bool
+linkTests r second x =
     agrees eqb (of64 (r .destination)) (x .destination)
     ∷ agrees eqb (of64 (r .source)) (x .source)
     ∷ agrees eqb (of16 (r .ether)) (x .ether)
+    ∷ agrees eqb (of8 (r .socket)) (socketNumber second)
     ∷ tagTests r (x .tag)
 
-unfoldable pub linkMatches : LinkSettings → Link → Bool
-linkMatches r x = every (linkTests r x)
+unfoldable pub linkMatches : LinkSettings → Bool → Link → Bool
+linkMatches r second x = every (linkTests r second x)
 
 -- "A layer with no setting matches every frame, even one that lacks it; with any setting it matches only where the layer is present and every setting agrees"
 abbrev pub layerMatches : List Bool → Bool → Bool
@@ -133,7 +136,7 @@ someipMatches r s x = layerMatches (someipUnset r) (messagesAgree r (messagesOf 
 -- the four layers, from link upward. "A rule matches if all four layers do"
 unfoldable pub layerTests : Rule → Seen → List Bool
 layerTests r x =
-    linkMatches (r .link) (x .layers .link)
+    linkMatches (r .link) (x .second) (x .layers .link)
     ∷ ipMatches (r .ipv4) (r .ipv6) (x .layers .ip)
     ∷ transportMatches (r .transport) (x .layers .transport)
     ∷ someipMatches (r .someip) (x .bytes) (x .layers .someip)

@@ -45,12 +45,13 @@ pub(crate) fn tag_agrees(r: LinkSettings, x: Tag) -> bool
     }
 }
 
-pub(crate) fn link_matches(r: LinkSettings, x: Link) -> bool
-    ensures { λ g. ⌜ g ≡ linkMatches r x ⌝ }
+pub(crate) fn link_matches(r: LinkSettings, second: bool, x: Link) -> bool
+    ensures { λ g. ⌜ g ≡ linkMatches r second x ⌝ }
 {
     let destination = r.destination;
     let source = r.source;
     let ether = r.ether;
+    let socket = r.socket;
     let tag = x.tag;
     if !agrees64(destination, x.destination) {
         return false;
@@ -59,6 +60,9 @@ pub(crate) fn link_matches(r: LinkSettings, x: Link) -> bool
         return false;
     }
     if !agrees16(ether, x.ether) {
+        return false;
+    }
+    if !agrees8(socket, socket_number(second)) {
         return false;
     }
     tag_agrees(r, tag)
@@ -201,14 +205,14 @@ pub(crate) fn someip_matches(r: &RuleWords, s: &[u8], x: Someip) -> bool
 }
 
 // The layers that match, from link upward to the first that does not.
-pub fn layers_matched(r: &RuleWords, s: &[u8], l: Layers) -> usize
+pub fn layers_matched(r: &RuleWords, second: bool, s: &[u8], l: Layers) -> usize
     requires { ⌜ Inside (now s) l ⌝ }
-    ensures { λ n. ⌜ n ≡ leading (layerTests (ruleIn (now (r .entry))) (seen (now (s .entry)) l)) ⌝ }
+    ensures { λ n. ⌜ n ≡ leading (layerTests (ruleIn (now (r .entry))) (seen second (now (s .entry)) l)) ⌝ }
 {
     let ip = l.ip;
     let transport = l.transport;
     let someip = l.someip;
-    if !link_matches(words::link(r), l.link) {
+    if !link_matches(words::link(r), second, l.link) {
         return 0;
     }
     if !ip_matches(r, ip) {

@@ -4,7 +4,7 @@ use Prim.Native.Nat.{ℕ, zero, suc, _<_, _≤_, _+_}
 use native.Mathlib.Omega.{arith}
 use native.Mathlib.Numerals.{add-one}
 use mathlib.Core.Path.{_≡_, refl, sym, ap, _∙_}
-use mathlib.Core.Bool.{Bool, true, false, cond, not, _&&_, _||_, true≢false}
+use mathlib.Core.Bool.{Bool, true, false, cond, not, _&&_, _||_, true≢false, Bool·beq}
 use lib.Bits.{bitOr, or-add-and, and-le-l, and-le-r}
 use lib.Dec.{ltb, eqb}
 use borrow.Author.Tests.{ltb-true, ltb-false, eqb-true, eq-eqb, not-true, not-false}
@@ -18,6 +18,17 @@ by-test false f g = g refl
 
 pub by-less : {P : Type 0} (a b : ℕ) → (a < b → P) → (b ≤ a → P) → P
 by-less a b f g = by-test (ltb a b) (λ e. f (ltb-true a b e)) (λ e. g (ltb-false a b e))
+
+-- two tests that go alike
+pub beq-true : (a b : Bool) → Bool·beq a b ≡ true → a ≡ b
+beq-true true true e = refl
+beq-true true false e = absurd (true≢false (sym e))
+beq-true false true e = absurd (true≢false (sym e))
+beq-true false false e = refl
+
+pub beq-itself : (a : Bool) → Bool·beq a a ≡ true
+beq-itself true = refl
+beq-itself false = refl
 
 -- a chain of tests, of which the code tells the result r of this one: it fails, and y stands there; it passes, and the rest x decides; it always passes
 pub cond-stops : {A : Type 0} {r b : Bool} {y : A} (x : A) → r ≡ b → not r ≡ true → y ≡ cond b x y

@@ -20,7 +20,14 @@ use Rattle.table.specs.Table.{noRule, noState}
 
 -- an ether type and no other link setting; a range of ports
 abbrev pub ethers : ℕ → LinkSettings
-ethers v = record { destination = set64.Unset; source = set64.Unset; vlan = set16.Unset; priority = set8.Unset; ether = set16.Set v }
+ethers v = record {
+  destination = set64.Unset;
+  source = set64.Unset;
+  vlan = set16.Unset;
+  priority = set8.Unset;
+  ether = set16.Set v;
+  socket = set8.Unset;
+}
 
 abbrev pub range : ℕ → ℕ → RangeSetting
 range low high = setRange.Set (record { low = low; high = high })
@@ -39,7 +46,7 @@ rule10 = record {
   tracking = noRule .tracking;
 }
 
--- "20 allow, TCP source 443-443, 2 places, limit 1,000"
+-- "20 allow, TCP source 443-443, 2 places, limit 1,000"; 6/12: "T allows each socket 2"
 abbrev pub rule20 : Rule
 rule20 = record {
   id = 20;
@@ -50,7 +57,7 @@ rule20 = record {
   transport = record { kind = setKind.Set kind.Tcp; source = range 443 443; destination = setRange.Unset };
   someip = noRule .someip;
   rate = noRule .rate;
-  tracking = record { places = set8.Set 2; limit = set32.Set 1000 };
+  tracking = record { places = set8.Set 2; limit = set32.Set 1000; number0 = set8.Set 2; number1 = set8.Set 2 };
 }
 
 -- "30 allow, ether 0x0806, size 2, refill 1"

@@ -10,6 +10,7 @@ const NO_LINK: LinkSettings = LinkSettings {
     vlan: Setting16::Unset,
     priority: Setting8::Unset,
     ether: Setting16::Unset,
+    socket: Setting8::Unset,
 };
 
 const NO_IPV4: Ipv4Settings = Ipv4Settings {
@@ -46,6 +47,8 @@ const NO_RATE: RateSettings = RateSettings {
 const NO_TRACKING: TrackingSettings = TrackingSettings {
     places: Setting8::Unset,
     limit: Setting32::Unset,
+    number0: Setting8::Unset,
+    number1: Setting8::Unset,
 };
 
 const NO_RULE: Rule = Rule {
@@ -108,7 +111,7 @@ fn rule10() -> Rule
     }
 }
 
-// "20 allow, TCP source 443-443, 2 places, limit 1,000".
+// "20 allow, TCP source 443-443, 2 places, limit 1,000"; "T allows each socket 2".
 fn rule20() -> Rule
     ensures { λ r. ⌜ r ≡ rule20 ⌝ }
 {
@@ -131,6 +134,8 @@ fn rule20() -> Rule
         tracking: TrackingSettings {
             places: Setting8::Set(2),
             limit: Setting32::Set(1000),
+            number0: Setting8::Set(2),
+            number1: Setting8::Set(2),
         },
     }
 }

@@ -14,7 +14,7 @@ use Rattle.table.specs.declared.Tracking.{Tracking}
 use Rattle.table.specs.declared.Tracking.the-variants as tracking
 use Rattle.places.specs.Places.{Place, free, isFree, placeOf, placesOf, Fits, ShapedPlace}
 use Rattle.places.specs.Ageing.{withAge, agedPlace, agedPlaces}
-use Rattle.places.specs.Good.{young, limitIn}
+use Rattle.places.specs.Good.{young, roomIn}
 use Rattle.numbers.proofs.Tests.{by-test, by-less, or-rest}
 use Rattle.numbers.proofs.Elements.{map-same, map-two, map-set, All-anew}
 use Rattle.places.proofs.PlaceLaws.{place-at, age-set, free-fits}
@@ -45,7 +45,7 @@ module _ (limit e : ℕ) (p : Place) where
   aged-fits : Fits p → Fits (agedPlace limit e p)
   aged-fits h =
       aged-by Fits (λ f. h)
-      (λ f m. record { state = h .state; socket = h .socket; expected = h .expected })
+      (λ f m. record { state = h .state; expected = h .expected })
       free-fits
 
 place-zero : (limit : ℕ) (p : Place) → young limit p ≡ true → agedPlace limit 0 p ≡ p
@@ -76,7 +76,7 @@ place-add limit a e p =
 -- ---- the places of a rule
 
 -- no time
-pub places-zero : (t : Tracking) (ps : List Place) → everyOf (young (limitIn t)) ps ≡ true → agedPlaces t 0 ps ≡ ps
+pub places-zero : (t : Tracking) (ps : List Place) → everyOf (young (roomIn t .limit)) ps ≡ true → agedPlaces t 0 ps ≡ ps
 places-zero tracking.Unset ps y = refl
 places-zero (tracking.Set m) ps y = map-same (agedPlace (m .limit) 0) (young (m .limit)) (place-zero (m .limit)) ps y
 

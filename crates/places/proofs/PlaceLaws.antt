@@ -1,9 +1,10 @@
 -- The words of a place and the place determine each other.
 -- Assumes nothing.
 use Prim.Native.Nat.{ℕ, _+_, _*_, _/_, _%_, _^_, _≤_}
+use Rattle.table.specs.Table.{socketNumber}
 use native.Mathlib.Omega.{arith}
 use mathlib.Core.Path.{_≡_, refl, ap, ap₂, _∙_}
-use mathlib.Core.Bool.{Bool, true, false}
+use mathlib.Core.Bool.{Bool, true, false, cond}
 use mathlib.Core.List.{List, [], _∷_}
 use lib.ListN.{getD, set, List·getD-map}
 use Rattle.places.specs.Places.{Place, free, ipv4Quad, ipv6Quad, kindNumber, placeOf, placesOf, placeWords, placesWords, Fits, ShapedPlace, phaseWord}
@@ -20,22 +21,20 @@ use Rattle.numbers.proofs.Tests.{by-less}
 use borrow.Author.Tests.{lt-ltb}
 use lib.Dec.{eqb}
 
--- ---- the kind and its number
+-- ---- a bit, and the kind or the socket that it says
 
--- a bit is the number of the kind that it says
-kind-number : (n : ℕ) → kindNumber (eqb (n % 2) 1) ≡ n % 2
-kind-number n =
+bit-number : (n : ℕ) → cond (eqb (n % 2) 1) 1 0 ≡ n % 2
+bit-number n =
     by-less (n % 2) 1 (λ h. let z : n % 2 ≡ 0 = omega arith in rw z) (λ h. let z : n % 2 ≡ 1 = omega arith in rw z)
 
--- and the kind is read from its number
-kind-back : (ipv6 : Bool) → eqb (kindNumber ipv6) 1 ≡ ipv6
-kind-back true = refl
-kind-back false = refl
+bit-back : (b : Bool) → eqb (cond b 1 0) 1 ≡ b
+bit-back true = refl
+bit-back false = refl
 
 -- ---- from words and back
 
-pub held-back : (n : ℕ) → n % 4 + 4 * kindNumber (eqb (n / 4 % 2) 1) + 8 * (n / 8 % 2) + 16 * (n / 16) ≡ n
-held-back n = omega (arith, kind-number (n / 4))
+pub held-back : (n : ℕ) → n % 4 + 4 * kindNumber (eqb (n / 4 % 2) 1) + 8 * socketNumber (eqb (n / 8 % 2) 1) + 16 * (n / 16) ≡ n
+held-back n = omega (arith, bit-number (n / 4), bit-number (n / 8))
 
 pub ports-back : (n : ℕ) → n % 2 ^ 32 + 2 ^ 32 * (n / 2 ^ 32) ≡ n
 ports-back n = omega arith
@@ -53,31 +52,37 @@ places-back ps h = map-back placeOf placeWords ShapedPlace place-back ps h
 pub place-same : (p : Place) → Fits p → placeOf (placeWords p) ≡ p
 place-same p h = λ i. record {
   state = state i;
-  quad = record { ipv6 = ipv6 i; source = p .quad .source; destination = p .quad .destination; ports = ports i };
+  quad = record { second = second i; ipv6 = ipv6 i; source = p .quad .source; destination = p .quad .destination; ports = ports i };
   age = age i;
-  unused = record { socket = socket i; expected = expected i };
+  unused = record { expected = expected i };
 }
   where
     k : ℕ
     k = kindNumber (p .quad .ipv6)
 
-    most : k ≤ 1
-    most = flag-le (p .quad .ipv6)
+    n : ℕ
+    n = socketNumber (p .quad .second)
 
-    state : (p .state + 4 * k + 8 * p .unused .socket + 16 * p .age) % 4 ≡ p .state
+    word : ℕ
+    word = p .state + 4 * k + 8 * n + 16 * p .age
+
+    state : word % 4 ≡ p .state
     state = let a = h .state in omega arith
 
-    kind : (p .state + 4 * k + 8 * p .unused .socket + 16 * p .age) / 4 % 2 ≡ k
-    kind = let a = h .state in let b = most in omega arith
+    kind : word / 4 % 2 ≡ k
+    kind = let a = h .state in omega (arith, flag-le (p .quad .ipv6))
 
-    ipv6 : eqb ((p .state + 4 * k + 8 * p .unused .socket + 16 * p .age) / 4 % 2) 1 ≡ p .quad .ipv6
-    ipv6 = ap (λ (n : ℕ). eqb n 1) kind ∙ kind-back (p .quad .ipv6)
+    ipv6 : eqb (word / 4 % 2) 1 ≡ p .quad .ipv6
+    ipv6 = ap (λ (n : ℕ). eqb n 1) kind ∙ bit-back (p .quad .ipv6)
 
-    socket : (p .state + 4 * k + 8 * p .unused .socket + 16 * p .age) / 8 % 2 ≡ p .unused .socket
-    socket = let a = h .state in let b = most in let c = h .socket in omega arith
+    socket : word / 8 % 2 ≡ n
+    socket = let a = h .state in omega (arith, flag-le (p .quad .ipv6), flag-le (p .quad .second))
 
-    age : (p .state + 4 * k + 8 * p .unused .socket + 16 * p .age) / 16 ≡ p .age
-    age = let a = h .state in let b = most in let c = h .socket in omega arith
+    second : eqb (word / 8 % 2) 1 ≡ p .quad .second
+    second = ap (λ (n : ℕ). eqb n 1) socket ∙ bit-back (p .quad .second)
+
+    age : word / 16 ≡ p .age
+    age = let a = h .state in omega (arith, flag-le (p .quad .ipv6), flag-le (p .quad .second))
 
     expected : (p .unused .expected + 2 ^ 32 * p .quad .ports) % 2 ^ 32 ≡ p .unused .expected
     expected = let a = h .expected in omega arith
@@ -91,14 +96,14 @@ places-same (p ∷ ps) h = ap₂ _∷_ (place-same p (h .0)) (places-same ps (h 
 
 -- what words say fits into words
 pub words-fit : (w : List ℕ) → Fits (placeOf w)
-words-fit w = record { state = omega arith; socket = omega arith; expected = omega arith }
+words-fit w = record { state = omega arith; expected = omega arith }
 
 pub places-fit : (ps : List (List ℕ)) → All Fits (placesOf ps)
 places-fit [] = tt
 places-fit (w ∷ ps) = (words-fit w, places-fit ps)
 
 pub free-fits : Fits free
-free-fits = record { state = omega arith; socket = omega arith; expected = omega arith }
+free-fits = record { state = omega arith; expected = omega arith }
 
 -- ---- words that the code reads and writes
 
@@ -112,13 +117,14 @@ age-set [] e n = absurd (omega arith)
 age-set (x ∷ w) e n = λ i. record {
   state = state i;
   quad = record {
+    second = eqb (socket i) 1;
     ipv6 = eqb (kind i) 1;
     source = placeOf (x ∷ w) .quad .source;
     destination = placeOf (x ∷ w) .quad .destination;
     ports = placeOf (x ∷ w) .quad .ports;
   };
   age = age i;
-  unused = record { socket = socket i; expected = placeOf (x ∷ w) .unused .expected };
+  unused = placeOf (x ∷ w) .unused;
 }
   where
     state : (x + 16 * e) % 4 ≡ x % 4
@@ -138,11 +144,11 @@ age-set (x ∷ w) e n = λ i. record {
 low-has32 : (a : ℕ) → has32 (low32 a) ≡ true
 low-has32 a = lt-ltb (a % 2 ^ 32) (2 ^ 32) (omega arith)
 
-pub quad-ipv4 : (s d ports : ℕ) → fitsKind (ipv4Quad s d ports) ≡ true
-quad-ipv4 s d ports = and-true-true (low-has32 s) (low-has32 d)
+pub quad-ipv4 : (second : Bool) (s d ports : ℕ) → fitsKind (ipv4Quad second s d ports) ≡ true
+quad-ipv4 second s d ports = and-true-true (low-has32 s) (low-has32 d)
 
-pub quad-ipv6 : (s d : Wide) (ports : ℕ) → fitsKind (ipv6Quad s d ports) ≡ true
-quad-ipv6 s d ports = refl
+pub quad-ipv6 : (second : Bool) (s d : Wide) (ports : ℕ) → fitsKind (ipv6Quad second s d ports) ≡ true
+quad-ipv6 second s d ports = refl
 
 -- three phases
 pub phase-most : (f : Phase) → phaseWord f ≤ 3

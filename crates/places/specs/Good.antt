@@ -1,27 +1,30 @@
 -- When the places of one rule are bad. Document 01, 'The records'.
 -- Assumes nothing.
 use Prim.Native.Nat.{ℕ, _^_}
-use mathlib.Core.Bool.{Bool, _&&_, _||_, not}
+use mathlib.Core.Bool.{Bool, true, false, _&&_, _||_, not}
 use mathlib.Core.List.{List, [], _∷_}
 use lib.ListN.{length, getD, drop}
-use lib.Dec.{ltb, eqb}
+use lib.Dec.{ltb, leb, eqb}
 use Rattle.numbers.specs.Lists.{every, everyOf, allBelow}
+use Rattle.table.specs.declared.Room.{Room}
 use Rattle.table.specs.declared.Tracking.{Tracking}
 use Rattle.table.specs.declared.Tracking.the-variants as tracking
-use Rattle.places.specs.Places.{Unused, Place, free, isFree, placesOf, holds}
+use Rattle.places.specs.Places.{Unused, Place, free, isFree, placesOf, holds, heldBy}
 use Rattle.table.specs.Table.{mostPlaces}
 use Rattle.places.specs.declared.Quad.{Quad}
 use Rattle.addresses.specs.declared.Wide.{Wide}
 
--- the places of a rule: none without tracking
-abbrev pub placesIn : Tracking → ℕ
-placesIn tracking.Unset = 0
-placesIn (tracking.Set m) = m .places
+-- the room of a rule: without tracking it has no place, no age is below its limit, and no socket may hold one
+abbrev pub noRoom : Room
+noRoom = record { places = 0; limit = 0; number0 = 0; number1 = 0 }
 
--- its idle limit: without tracking no age is below it
-abbrev pub limitIn : Tracking → ℕ
-limitIn tracking.Unset = 0
-limitIn (tracking.Set m) = m .limit
+abbrev pub roomIn : Tracking → Room
+roomIn tracking.Unset = noRoom
+roomIn (tracking.Set m) = m
+
+-- its places
+abbrev pub placesIn : Tracking → ℕ
+placesIn t = roomIn t .places
 
 -- "an address and port quadruple repeats within one rule": the place at j repeats that of an earlier one
 abbrev pub repeats : List Place → ℕ → ℕ → Bool
@@ -41,7 +44,7 @@ young limit p = isFree p || ltb (p .age) limit
 
 -- what has no meaning yet is zero
 abbrev pub isNothing : Unused → Bool
-isNothing u = eqb (u .socket) 0 && eqb (u .expected) 0
+isNothing u = eqb (u .expected) 0
 
 -- an IPv4 address has 32 bits, and what stands above them is zero
 abbrev pub has32 : Wide → Bool
@@ -61,7 +64,8 @@ isZero a = eqb (a .high) 0 && eqb (a .low) 0
 abbrev pub isBlank : Place → Bool
 isBlank p =
     every
-    (not (p .quad .ipv6)
+    (not (p .quad .second)
+    ∷ not (p .quad .ipv6)
     ∷ isZero (p .quad .source)
     ∷ isZero (p .quad .destination)
     ∷ eqb (p .quad .ports) 0
@@ -84,19 +88,23 @@ placeGood is limit p = clean p && (isFree p || (is && ltb (p .age) limit))
 abbrev pub eachGood : ℕ → ℕ → List Place → Bool
 eachGood n limit ps = allBelow (λ j. placeGood (ltb j n) limit (getD ps j free)) mostPlaces
 
--- The tests of the places, of which the rule has n: "a conversation stands on a rule without tracking" (n is 0) "or in a place the rule doesn't have";
--- "a quadruple repeats within one rule"; "an age is not below the idle limit"; words that are no record
-abbrev pub placesTests : ℕ → ℕ → List Place → List Bool
-placesTests n limit ps =
-    everyOf isFree (drop n ps)
+-- 6/12: "A record with a socket above its number is bad". A conversation on a socket above 1 is none that words can say: they have one bit for it
+abbrev pub numberTests : Room → List Place → List Bool
+numberTests m ps = leb (heldBy false ps) (m .number0) ∷ leb (heldBy true ps) (m .number1) ∷ []
+
+-- The tests of the places of a rule: "a conversation stands on a rule without tracking" (it has no room) "or in a place the rule doesn't have";
+-- "a quadruple repeats within one rule"; "an age is not below the idle limit"; words that are no record; and the sockets' numbers
+abbrev pub placesTests : Room → List Place → List Bool
+placesTests m ps =
+    everyOf isFree (drop (m .places) ps)
     ∷ once ps
-    ∷ everyOf (young limit) ps
+    ∷ everyOf (young (m .limit)) ps
     ∷ everyOf clean ps
-    ∷ []
+    ∷ numberTests m ps
 
 -- the words of the places of a rule without tracking: all as in a fresh record
 abbrev pub isEmpty : List (List ℕ) → Bool
-isEmpty ps = every (placesTests 0 0 (placesOf ps))
+isEmpty ps = every (placesTests noRoom (placesOf ps))
 
 -- of the slot at k, where it is one from n on
 abbrev pub emptyFrom : ℕ → List (List (List ℕ)) → ℕ → Bool

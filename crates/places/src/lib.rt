@@ -2,13 +2,14 @@
 pub mod ageing;
 pub mod place;
 pub mod shape;
+pub mod sockets;
 
 use addresses::Wide;
 use table::PLACES;
 use table::RULES;
 
 // The words of a place, from the lowest bit up, in bits. What has no meaning yet must be zero, or the record is bad.
-// 0: state 2 (0 free, 1 Opening, 2 Running, 3 Closing), kind 1 (0 IPv4, 1 IPv6), socket 1 (no meaning yet), age in ms 60
+// 0: state 2 (0 free, 1 Opening, 2 Running, 3 Closing), kind 1 (0 IPv4, 1 IPv6), socket 1, age in ms 60
 // 1: expected number 32 (no meaning yet), both ports 32
 // 2, 3: source address, its high 64 bits and its low 64; an IPv4 address stands in the lowest 32, and above it all is zero
 // 4, 5: destination address, likewise
@@ -44,8 +45,9 @@ pub const AGE_BIT: u64 = 16;
 // The weight of a word's upper half.
 pub const HALF: u64 = 4294967296;
 
-// A conversation: the addresses, of one kind, and both ports, source x 65,536 + destination, as this direction shows them.
+// A conversation: its socket, the addresses, of one kind, and both ports, source x 65,536 + destination, as this direction shows them.
 pub struct Quad {
+    pub second: bool,
     pub ipv6: bool,
     pub source: Wide,
     pub destination: Wide,

@@ -1,5 +1,6 @@
 // The words of one place, read and made.
 ghost use mathlib.Core.Path.{_≡_};
+ghost use mathlib.Core.Bool.{cond};
 ghost use Prim.Native.Nat.{_/_, _^_};
 ghost use Rattle.places.specs.Places.{
   placeOf,
@@ -13,7 +14,7 @@ ghost use Rattle.places.specs.Places.{
   holds,
   phaseOf,
   phaseWord,
-  kindNumber,
+  ofSocket,
   heldAs,
 };
 ghost use Rattle.places.specs.Ageing.{withAge};
@@ -46,6 +47,7 @@ pub fn quad(p: &PlaceWords) -> Quad
     ensures { λ r. ⌜ r ≡ placeOf (now (p .entry)) .quad ⌝ }
 {
     Quad {
+        second: p[HELD] / SOCKET_BIT % 2 == 1,
         ipv6: p[HELD] / KIND_BIT % 2 == 1,
         source: Wide {
             high: p[SOURCE_HIGH],
@@ -59,11 +61,12 @@ pub fn quad(p: &PlaceWords) -> Quad
     }
 }
 
-// No conversation: what stands in a free place.
-pub fn no_quad() -> Quad
-    ensures { λ r. ⌜ r ≡ noQuad ⌝ }
+// No conversation, of a socket.
+pub fn no_quad(second: bool) -> Quad
+    ensures { λ r. ⌜ r ≡ noQuad second ⌝ }
 {
     Quad {
+        second,
         ipv6: false,
         source: Wide { high: 0, low: 0 },
         destination: Wide { high: 0, low: 0 },
@@ -71,10 +74,11 @@ pub fn no_quad() -> Quad
     }
 }
 
-pub fn ipv4_quad(source: u32, destination: u32, ports: u32) -> Quad
-    ensures { λ r. ⌜ r ≡ ipv4Quad source destination ports ⌝ }
+pub fn ipv4_quad(second: bool, source: u32, destination: u32, ports: u32) -> Quad
+    ensures { λ r. ⌜ r ≡ ipv4Quad second source destination ports ⌝ }
 {
     Quad {
+        second,
         ipv6: false,
         source: wide128(source),
         destination: wide128(destination),
@@ -82,10 +86,11 @@ pub fn ipv4_quad(source: u32, destination: u32, ports: u32) -> Quad
     }
 }
 
-pub fn ipv6_quad(source: Wide, destination: Wide, ports: u32) -> Quad
-    ensures { λ r. ⌜ r ≡ ipv6Quad source destination ports ⌝ }
+pub fn ipv6_quad(second: bool, source: Wide, destination: Wide, ports: u32) -> Quad
+    ensures { λ r. ⌜ r ≡ ipv6Quad second source destination ports ⌝ }
 {
     Quad {
+        second,
         ipv6: true,
         source,
         destination,
@@ -115,7 +120,8 @@ pub fn same_quad(a: Quad, b: Quad) -> bool
     if a.ports != b.ports {
         return false;
     }
-    same_address(source(a), source(b)) & same_address(destination(a), destination(b))
+    let between = same_address(source(a), source(b)) & same_address(destination(a), destination(b));
+    between & (a.second == b.second)
 }
 
 // Every number but 1 and 2 is Closing.
@@ -141,17 +147,19 @@ fn phase_word(f: Phase) -> u64
     }
 }
 
-fn kind_bit(ipv6: bool) -> u64
-    ensures { λ r. ⌜ r ≡ kindNumber ipv6 ⌝ }
+// The bit that says a kind, or a socket.
+fn bit(b: bool) -> u64
+    ensures { λ r. ⌜ r ≡ cond b 1 0 ⌝ }
 {
-    if ipv6 { 1 } else { 0 }
+    if b { 1 } else { 0 }
 }
 
 // The words of a conversation of this age.
 pub fn place_words(q: Quad, f: Phase, age: u32) -> PlaceWords
     ensures { λ r. ⌜ r ≡ placeWords (withAge (heldAs q f) age) ⌝ }
 {
-    let held = phase_word(f) + KIND_BIT * kind_bit(q.ipv6) + AGE_BIT * numbers::wide64(age);
+    let side = KIND_BIT * bit(q.ipv6) + SOCKET_BIT * bit(q.second);
+    let held = phase_word(f) + side + AGE_BIT * numbers::wide64(age);
     let ports = HALF * numbers::wide64(q.ports);
     let source = q.source;
     let destination = q.destination;
@@ -163,6 +171,14 @@ pub fn place_words(q: Quad, f: Phase, age: u32) -> PlaceWords
         destination.high,
         destination.low,
     ]
+}
+
+// Does the place hold a conversation of the socket?
+pub(crate) fn is_of(second: bool, p: &PlaceWords) -> bool
+    ensures { λ r. ⌜ r ≡ ofSocket second (placeOf (now (p .entry))) ⌝ }
+{
+    let w = p[HELD];
+    (w % KIND_BIT != 0) & ((w / SOCKET_BIT % 2 == 1) == second)
 }
 
 pub fn is_held_by(q: Quad, p: &PlaceWords) -> bool

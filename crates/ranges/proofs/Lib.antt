@@ -1,3 +1,4 @@
 pub mod Tests
 pub mod Rules
 pub mod Unset
+pub mod Whole

@@ -1,17 +1,14 @@
 -- The tests of one rule, layer by layer.
 -- Assumes nothing.
-use Prim.Native.Nat.{ℕ}
 use mathlib.Core.Path.{_≡_, refl}
 use mathlib.Core.List.{List, [], _∷_, _++_}
-use mathlib.Core.Bool.{Bool, true, false, cond, _&&_, _||_, not, Bool·beq, false≢true, true≢false}
+use mathlib.Core.Bool.{Bool, true, false, cond, _&&_, _||_, Bool·beq, false≢true}
 use Rattle.numbers.proofs.Tests.{cond-skips}
 use Rattle.table.specs.Settings.{Setting, unset, set, within, isUnset, paired, of8, of16}
 use Rattle.ranges.specs.declared.setting_number.SettingNumber.{SettingNumber}
 use Rattle.ranges.specs.Numbers as setting
 use Rattle.ranges.specs.Ranges.{
   any,
-  fromTo,
-  halfGood,
   mayTrack,
   Test,
   test,
@@ -35,15 +32,14 @@ pub any-good : {A : Type 0} (s : Setting A) → within any s ≡ true
 any-good unset = refl
 any-good (set v) = refl
 
--- an IPv6 setting that is unset, and one in the words of the code
+-- an IPv6 setting that is unset
 pub unset-good : {A : Type 0} (p : A → Bool) (s : Setting A) (alone : Bool) → isUnset s ≡ true → ipv6Good p s alone ≡ true
 unset-good p unset alone e = refl
 unset-good p (set v) alone e = absurd (false≢true e)
 
-pub by-parts :
-    {A : Type 0} (p : A → Bool) (s : Setting A) (alone : Bool) {a b : Bool} → a ≡ within p s → b ≡ isUnset s
-    → (a && (b || alone)) ≡ ipv6Good p s alone
-by-parts p s alone e f = rw (e, f)
+-- a setting that may be set only where the rest allows it, in the words of the code; one whose every value is good
+pub by-parts : {a b p u : Bool} (may : Bool) → a ≡ p → b ≡ u → (a && (b || may)) ≡ (p && (u || may))
+by-parts may e f = rw (e, f)
 
 pub any-alone : {A : Type 0} (s : Setting A) (alone : Bool) {b : Bool} → b ≡ isUnset s → (b || alone) ≡ ipv6Good any s alone
 any-alone s alone f = rw (f, any-good s)
@@ -56,51 +52,6 @@ pair-fault unset unset m n e f = rw (e, f)
 pair-fault unset (set b) m n e f = rw (e, f)
 pair-fault (set a) unset m n e f = rw (e, f)
 pair-fault (set a) (set b) m n e f = rw (e, f)
-
--- tracking: the tests of its two halves
-abbrev halves : Setting ℕ → Setting ℕ → Bool → List Test
-halves x y may = test setting.places (halfGood 8 x y may) ∷ test setting.idleLimit (halfGood 600000 y x may) ∷ []
-
--- the places are unset
-pub no-places :
-    (x y : Setting ℕ) (may : Bool) {q : Bool} → isUnset x ≡ true → q ≡ isUnset y
-    → cond q setting.none setting.idleLimit ≡ faultIn (halves x y may)
-no-places unset unset may e f = rw f
-no-places unset (set l) may e f = rw f (go (fromTo 1 600000 l))
-  where
-    go : (a : Bool) → setting.idleLimit ≡ cond (a && false && may) setting.none setting.idleLimit
-    go true = refl
-    go false = refl
-no-places (set p) y may e f = absurd (false≢true e)
-
--- the places are set, and the limit is unset
-pub no-limit : (x y : Setting ℕ) (may : Bool) → isUnset x ≡ false → isUnset y ≡ true → setting.places ≡ faultIn (halves x y may)
-no-limit (set p) unset may e h = go (fromTo 1 8 p)
-  where
-    go : (a : Bool) → setting.places ≡ cond (a && false && may) setting.none setting.places
-    go true = refl
-    go false = refl
-no-limit unset y may e h = absurd (true≢false e)
-no-limit (set p) (set l) may e h = absurd (false≢true h)
-
--- both are set
-pub both-halves :
-    (x y : Setting ℕ) (may : Bool) {a b : Bool} → isUnset x ≡ false → isUnset y ≡ false → a ≡ within (fromTo 1 8) x
-    → b ≡ within (fromTo 1 600000) y
-    → cond (not (a && may)) setting.places (cond (not b) setting.idleLimit setting.none) ≡ faultIn (halves x y may)
-both-halves (set p) (set l) may e h f g = rw (f, g) (go (fromTo 1 8 p) (fromTo 1 600000 l) may)
-  where
-    go :
-        (a b m : Bool)
-        → cond (not (a && m)) setting.places (cond (not b) setting.idleLimit setting.none)
-        ≡ cond (a && true && m) (cond (b && true && m) setting.none setting.idleLimit) setting.places
-    go true true true = refl
-    go true true false = refl
-    go true false true = refl
-    go true false false = refl
-    go false b m = refl
-both-halves unset y may e h f g = absurd (true≢false e)
-both-halves (set p) unset may e h f g = absurd (true≢false h)
 
 -- ---- the tests of a rule, layer by layer
 

@@ -63,7 +63,7 @@ module _ (w : List ℕ) where
     pub link-unset : b ≡ eqb (word w linkWord % 256) 0 → none ≡ faultIn (linkTests (linkIn w))
     unfolding setting8In setting16In setting64In
     link-unset e =
-        rw (none-set linkWord 0 e f (omega arith), none-set linkWord 1 e f (omega arith), none-set linkWord 2 e f (omega arith), none-set linkWord 3 e f (omega arith), none-set linkWord 4 e f (omega arith))
+        rw (none-set linkWord 0 e f (omega arith), none-set linkWord 1 e f (omega arith), none-set linkWord 2 e f (omega arith), none-set linkWord 3 e f (omega arith), none-set linkWord 4 e f (omega arith), none-set linkWord 5 e f (omega arith))
 
     pub ip-unset : b ≡ eqb (word w ipWord % 256) 0 → none ≡ faultIn (ipTests (ipv4In w) (ipv6In w))
     unfolding setting8In prefixIn prefix6In
@@ -81,7 +81,8 @@ module _ (w : List ℕ) where
 
     pub tracking-unset : b ≡ eqb (word w trackingWord % 256) 0 → (may : Bool) → none ≡ faultIn (trackingTests (trackingIn w) may)
     unfolding setting8In setting32In
-    tracking-unset e may = rw (none-set trackingWord 0 e f (omega arith), none-set trackingWord 1 e f (omega arith))
+    tracking-unset e may =
+        rw (none-set trackingWord 0 e f (omega arith), none-set trackingWord 1 e f (omega arith), none-set trackingWord 2 e f (omega arith), none-set trackingWord 3 e f (omega arith))
 
 -- no IPv6 setting is set, and none is at fault
 pub ipv6-unset : (s : Ipv6Settings) (alone : Bool) {b : Bool} → b ≡ every (ipv6Unset s) → b ≡ true → none ≡ faultIn (ipv6Tests s alone)

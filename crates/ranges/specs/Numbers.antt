@@ -28,6 +28,9 @@ priority = numbered 4
 abbrev pub etherType : SettingNumber
 etherType = numbered 5
 
+abbrev pub socket : SettingNumber
+socket = numbered 24
+
 abbrev pub ipv4Source : SettingNumber
 ipv4Source = numbered 6
 
@@ -81,6 +84,12 @@ places = numbered 19
 
 abbrev pub idleLimit : SettingNumber
 idleLimit = numbered 20
+
+abbrev pub number0 : SettingNumber
+number0 = numbered 25
+
+abbrev pub number1 : SettingNumber
+number1 = numbered 26
 
 -- "states or rule count name none"
 abbrev pub none : SettingNumber

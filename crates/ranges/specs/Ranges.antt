@@ -1,11 +1,11 @@
--- When a rule is bad by itself: its settings in the paper's order, each with its test. Document 01, 'Rules and vehicle states'; change requests 1/12 and 2/12.
+-- When a rule is bad by itself: its settings in the paper's order, each with its test. Document 01, 'Rules and vehicle states'; change requests 1/12, 2/12 and 6/12.
 -- Assumes nothing.
 use Prim.Native.Nat.{ℕ}
 use mathlib.Core.List.{List, [], _∷_, _++_}
-use mathlib.Core.Bool.{Bool, true, false, cond, _&&_, _||_}
+use mathlib.Core.Bool.{Bool, true, false, cond, _&&_, _||_, not}
 use lib.Dec.{leb}
 use Rattle.numbers.specs.Lists.{every, everyOf}
-use Rattle.table.specs.Settings.{Setting, of8, of16, of32, of64, ofKind, ofRange, ofPrefix, ofPrefix6, isUnset, within, paired}
+use Rattle.table.specs.Settings.{Setting, unset, set, of8, of16, of32, of64, ofKind, ofRange, ofPrefix, ofPrefix6, isUnset, within, paired}
 use Rattle.table.specs.declared.Action.{Action}
 use Rattle.table.specs.declared.Action.the-variants as action
 use Rattle.table.specs.declared.Kind.{Kind}
@@ -22,8 +22,11 @@ use Rattle.table.specs.declared.TransportSettings.{TransportSettings}
 use Rattle.table.specs.declared.SomeipSettings.{SomeipSettings}
 use Rattle.table.specs.declared.RateSettings.{RateSettings}
 use Rattle.table.specs.declared.TrackingSettings.{TrackingSettings}
+use Rattle.table.specs.declared.Room.{Room}
+use Rattle.table.specs.declared.Setting8.the-variants as set8
+use Rattle.table.specs.declared.Setting32.the-variants as set32
 use Rattle.table.specs.declared.Rule.{Rule}
-use Rattle.table.specs.Marks.{ipv4Unset}
+use Rattle.table.specs.Marks.{ipv4Unset, trackingUnset}
 use Rattle.table.specs.Table.{mostPlaces, isAllow, isTcp}
 use Rattle.ranges.specs.declared.setting_number.SettingNumber.{SettingNumber}
 use Rattle.ranges.specs.Numbers as setting
@@ -72,9 +75,27 @@ portsGood k ports = within rangeGood (ofRange ports) && paired (ofRange ports) (
 abbrev pub mayTrack : Rule → Bool
 mayTrack r = isAllow (r .action) && isTcp (ofKind (r .transport .kind))
 
--- one half of tracking, from 1 to its highest value, with its other half, and on a rule that may track
-abbrev pub halfGood : ℕ → Setting ℕ → Setting ℕ → Bool → Bool
-halfGood high half other may = within (fromTo 1 high) half && paired half other && (isUnset half || may)
+-- 6/12: the four of tracking go together, all or none
+abbrev pub allSet : TrackingSettings → Bool
+allSet s = everyOf not (trackingUnset s)
+
+-- the four as they are set where all are
+abbrev pub allOf : Room → TrackingSettings
+allOf m = record {
+  places = set8.Set (m .places);
+  limit = set32.Set (m .limit);
+  number0 = set8.Set (m .number0);
+  number1 = set8.Set (m .number1);
+}
+
+-- "0 to its places"
+abbrev pub upTo : Setting ℕ → ℕ → Bool
+upTo unset v = true
+upTo (set places) v = leb v places
+
+-- one of the four, within its range, and set only where it may be
+abbrev pub partGood : (ℕ → Bool) → Setting ℕ → Bool → Bool
+partGood p part may = within p part && (isUnset part || may)
 
 -- ---- the one list: a line for each setting in the paper's order, its number beside its test, and so all that can be wrong with a rule
 
@@ -101,6 +122,7 @@ linkTests s =
     ∷ test setting.vlanId (within (fromTo 0 4094) (of16 (s .vlan)))
     ∷ test setting.priority (within (fromTo 0 7) (of8 (s .priority)))
     ∷ test setting.etherType (within any (of16 (s .ether)))
+    ∷ test setting.socket (within (fromTo 0 1) (of8 (s .socket)))
     ∷ []
 
 abbrev pub ipv4Tests : Ipv4Settings → List Test
@@ -146,12 +168,18 @@ rateTests s =
     ∷ test setting.refill (paired (of16 (s .refill)) (of16 (s .size)))
     ∷ []
 
--- "misplaced tracking its first set half"
-abbrev pub trackingTests : TrackingSettings → Bool → List Test
-trackingTests s may =
-    test setting.places (halfGood mostPlaces (of8 (s .places)) (of32 (s .limit)) may)
-    ∷ test setting.idleLimit (halfGood 600000 (of32 (s .limit)) (of8 (s .places)) may)
+-- each of the four, told whether it may be set
+abbrev pub partTests : TrackingSettings → Bool → List Test
+partTests s may =
+    test setting.places (partGood (fromTo 1 mostPlaces) (of8 (s .places)) may)
+    ∷ test setting.idleLimit (partGood (fromTo 1 600000) (of32 (s .limit)) may)
+    ∷ test setting.number0 (partGood (upTo (of8 (s .places))) (of8 (s .number0)) may)
+    ∷ test setting.number1 (partGood (upTo (of8 (s .places))) (of8 (s .number1)) may)
     ∷ []
+
+-- "misplaced tracking its first set half", and so does tracking of which some are set and not all
+abbrev pub trackingTests : TrackingSettings → Bool → List Test
+trackingTests s may = partTests s (allSet s && may)
 
 unfoldable pub ruleTests : Bool → Rule → List Test
 ruleTests fresh r =

@@ -10,6 +10,8 @@ ghost use Rattle.ranges.specs.Ranges.{
   ipTests,
   transportTests,
   rateTests,
+  allOf,
+  partTests,
   trackingTests,
   ruleTests,
   mayTrack,
@@ -37,6 +39,7 @@ fn link_fault(s: LinkSettings) -> SettingNumber
     let source = s.source;
     let vlan = s.vlan;
     let priority = s.priority;
+    let socket = s.socket;
     if !within64(destination, 0, 0xFFFFFFFFFFFF) {
         return SettingNumber::DESTINATION_MAC;
     }
@@ -48,6 +51,9 @@ fn link_fault(s: LinkSettings) -> SettingNumber
     }
     if !within8(priority, 0, 7) {
         return SettingNumber::PRIORITY;
+    }
+    if !within8(socket, 0, 1) {
+        return SettingNumber::SOCKET;
     }
     SettingNumber::NONE
 }
@@ -120,32 +126,50 @@ fn rate_fault(s: RateSettings) -> SettingNumber
     }
 }
 
-// Both or neither, each within its range, and only on a rule that may track.
-fn tracking_fault(s: TrackingSettings, may: bool) -> SettingNumber
-    ensures { λ n. ⌜ n ≡ faultIn (trackingTests s may) ⌝ }
+// The first of the four that is not within its range, or is set where it may not be.
+fn part_fault(s: TrackingSettings, may: bool) -> SettingNumber
+    ensures { λ n. ⌜ n ≡ faultIn (partTests s may) ⌝ }
 {
     let places = s.places;
     let limit = s.limit;
-    match places {
-        Setting8::Unset => {
-            if unset32(limit) {
-                return SettingNumber::NONE;
-            }
-            SettingNumber::IDLE_LIMIT
-        }
-        Setting8::Set(_) => {
-            if unset32(limit) {
-                return SettingNumber::PLACES;
-            }
-            if !(within8(places, 1, MOST_PLACES) & may) {
-                return SettingNumber::PLACES;
-            }
-            if !within32(limit, 1, 600000) {
-                return SettingNumber::IDLE_LIMIT;
-            }
-            SettingNumber::NONE
-        }
+    let number0 = s.number0;
+    let number1 = s.number1;
+    if !(within8(places, 1, MOST_PLACES) & (unset8(places) | may)) {
+        return SettingNumber::PLACES;
     }
+    if !(within32(limit, 1, 600000) & (unset32(limit) | may)) {
+        return SettingNumber::IDLE_LIMIT;
+    }
+    if !(within_places(places, number0) & (unset8(number0) | may)) {
+        return SettingNumber::NUMBER0;
+    }
+    if !(within_places(places, number1) & (unset8(number1) | may)) {
+        return SettingNumber::NUMBER1;
+    }
+    SettingNumber::NONE
+}
+
+// The same where all four are set: each within its range, and only on a rule that may track.
+fn room_fault(m: Room, may: bool) -> SettingNumber
+    ensures { λ n. ⌜ n ≡ faultIn (partTests (allOf m) may) ⌝ }
+{
+    let places = m.places;
+    let limit = m.limit;
+    let number0 = m.number0;
+    let number1 = m.number1;
+    if !(((1 <= places) & (places <= MOST_PLACES)) & may) {
+        return SettingNumber::PLACES;
+    }
+    if !(((1 <= limit) & (limit <= 600000)) & may) {
+        return SettingNumber::IDLE_LIMIT;
+    }
+    if !((number0 <= places) & may) {
+        return SettingNumber::NUMBER0;
+    }
+    if !((number1 <= places) & may) {
+        return SettingNumber::NUMBER1;
+    }
+    SettingNumber::NONE
 }
 
 fn may_track(r: &RuleWords) -> bool
@@ -219,13 +243,18 @@ fn rate_in_row(r: &RuleWords) -> SettingNumber
     rate_fault(rate(r))
 }
 
+// All four are set, or not all: then each that is set is at fault.
 fn tracking_in_row(r: &RuleWords) -> SettingNumber
     ensures { λ n. ⌜ n ≡ faultIn (trackingTests (trackingIn (now (r .entry))) (mayTrack (ruleIn (now (r .entry))))) ⌝ }
 {
     if none_set(r, TRACKING) {
         return SettingNumber::NONE;
     }
-    tracking_fault(tracking_settings(r), may_track(r))
+    let k = tracking(r);
+    match k {
+        Tracking::Unset => part_fault(tracking_settings(r), false),
+        Tracking::Set(m) => room_fault(m, may_track(r)),
+    }
 }
 
 // All that can be wrong with a rule, up to the first setting that is at fault.

@@ -6,7 +6,7 @@ ghost use Rattle.table.specs.Table.{noRule};
 ghost use Rattle.ranges.specs.Ranges.{settingOf, ruleTests};
 
 // How many settings a rule has, its id and its action among them.
-pub const SETTINGS: usize = 25;
+pub const SETTINGS: usize = 28;
 
 // The number that stands for none of them.
 pub const NO_SETTING: u8 = SettingNumber::NONE.number;
@@ -30,6 +30,8 @@ impl SettingNumber {
     pub const PRIORITY: SettingNumber = SettingNumber { number: 4 };
 
     pub const ETHER_TYPE: SettingNumber = SettingNumber { number: 5 };
+
+    pub const SOCKET: SettingNumber = SettingNumber { number: 24 };
 
     pub const IPV4_SOURCE: SettingNumber = SettingNumber { number: 6 };
 
@@ -67,6 +69,10 @@ impl SettingNumber {
 
     pub const IDLE_LIMIT: SettingNumber = SettingNumber { number: 20 };
 
+    pub const NUMBER0: SettingNumber = SettingNumber { number: 25 };
+
+    pub const NUMBER1: SettingNumber = SettingNumber { number: 26 };
+
     // The fault is not in a setting of a rule.
     pub const NONE: SettingNumber = SettingNumber { number: 255 };
 
@@ -82,6 +88,7 @@ impl SettingNumber {
             SettingNumber::VLAN_ID,
             SettingNumber::PRIORITY,
             SettingNumber::ETHER_TYPE,
+            SettingNumber::SOCKET,
             SettingNumber::IPV4_SOURCE,
             SettingNumber::IPV4_DESTINATION,
             SettingNumber::IPV4_PROTOCOL,
@@ -100,6 +107,8 @@ impl SettingNumber {
             SettingNumber::REFILL,
             SettingNumber::PLACES,
             SettingNumber::IDLE_LIMIT,
+            SettingNumber::NUMBER0,
+            SettingNumber::NUMBER1,
         ]
     }
 }

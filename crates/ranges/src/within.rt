@@ -1,7 +1,7 @@
 // Is the value of one setting within its range?
 ghost use mathlib.Core.Path.{_≡_};
 ghost use Rattle.table.specs.Settings.{of8, of16, of32, of64, ofKind, ofPrefix, ofPrefix6, within};
-ghost use Rattle.ranges.specs.Ranges.{fromTo, knownAction, knownKind, prefixGood, prefix6Good, portsGood};
+ghost use Rattle.ranges.specs.Ranges.{fromTo, upTo, knownAction, knownKind, prefixGood, prefix6Good, portsGood};
 use table::settings::unset_kind;
 use table::*;
 
@@ -11,6 +11,19 @@ pub(crate) fn within8(s: Setting8, low: u8, high: u8) -> bool
     match s {
         Setting8::Unset => true,
         Setting8::Set(v) => (low <= v) & (v <= high),
+    }
+}
+
+// A number of places that is not above the places of the rule.
+pub(crate) fn within_places(places: Setting8, s: Setting8) -> bool
+    ensures { λ r. ⌜ r ≡ within (upTo (of8 places)) (of8 s) ⌝ }
+{
+    match s {
+        Setting8::Unset => true,
+        Setting8::Set(v) => match places {
+            Setting8::Unset => true,
+            Setting8::Set(p) => v <= p,
+        },
     }
 }
 

@@ -3,7 +3,7 @@
 use Prim.Native.Nat.{ℕ, _≤_}
 use mathlib.Core.Path.{_≡_, refl, sym, ap, _∙_}
 use mathlib.Core.List.{List}
-use mathlib.Core.Bool.{true}
+use mathlib.Core.Bool.{true, false}
 use native.Mathlib.Omega.{arith}
 use lib.ListN.{length}
 use Rattle.numbers.specs.Lists.{copies}
@@ -50,16 +50,16 @@ module _ (t : Table) (r : Run) (time : ℕ) (bytes : List ℕ) (v : Lent) (table
       (f : FrameRefusal) (n : ℕ) → shownOf bytes ≡ shown.Refused f → n ≡ refusalNumber f
       → OfFrame (line.Refused (r .place) time n) v
   unfolding judged
-  frame-refused f n e k = rw k (of-call (says (badFrame f) v blank) (rw (← began, judge-good t v (arrival time bytes) blank table (records .good), e)))
+  frame-refused f n e k = rw k (of-call (says (badFrame f) v blank) (rw (← began, judge-good t v (arrival time 0 bytes) blank table (records .good) (omega arith), e)))
 
   -- one that is judged
   pub frame-judged :
       (l : Layers) (a : Answer) (w : Lent) (space : List ℕ) (e : ℕ) → shownOf bytes ≡ shown.Shows l
-      → stepped a w space ≡ steppedAs (outcomeOf t (recordsOf v) time (seen bytes l)) blank
+      → stepped a w space ≡ steppedAs (outcomeOf t (recordsOf v) time (seen false bytes l)) blank
       → e ≡ eventNumber (a .length) space
       → OfFrame (line.Judged (r .place) time (a .verdict .number) (a .rule) e) w
   unfolding judged
   frame-judged l a w space e q s k =
-      let judges : Judges (arrival time bytes) blank l = record { shows = q; room = blank-room } in
+      let judges : Judges (arrival time 0 bytes) blank l = record { socket = omega arith; shows = q; room = blank-room } in
       let call : Stepped → After = λ x. says (answered (x .verdict) (x .rule) (x .length)) (x .words) (x .space) in
-      rw k (of-call (call (stepped a w space)) (rw (← began, judge-shows t v (arrival time bytes) blank l table (records .good) judges) (sym (ap call s))))
+      rw k (of-call (call (stepped a w space)) (rw (← began, judge-shows t v (arrival time 0 bytes) blank l table (records .good) judges) (sym (ap call s))))

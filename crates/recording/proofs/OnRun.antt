@@ -55,7 +55,7 @@ module _ (t : Table) (table : faultOf t ≡ fault.Good) where
   run-begun r Cut g = g
   run-begun r (Refused time number) g = λ h. begun-good r time g
   run-begun r (Frame time bytes) g =
-      λ h. good-kept .judge t (begun t r time) (arrival time bytes) blank (begun-good r time g)
+      λ h. good-kept .judge t (begun t r time) (arrival time 0 bytes) blank (begun-good r time g)
 
   pub runs-begun : (r : Run) (l : List Item) → Begun t r → Begun t (ends (runBy t) r l)
   runs-begun r [] g = g
@@ -81,7 +81,7 @@ module _ (t : Table) (table : faultOf t ≡ fault.Good) (r : Run) (good : Begun 
       → judged t r time bytes ≡ says (badFrame refusal.TooLong) (begun t r time) blank
   unfolding judged
   long-judged time bytes h =
-      rw (judge-good t (begun t r time) (arrival time bytes) blank table (begun-good t table r time good .good), long-refused bytes h)
+      rw (judge-good t (begun t r time) (arrival time 0 bytes) blank table (begun-good t table r time good .good) (omega arith), long-refused bytes h)
 
   -- so an item as it is found has the line of the item, and leaves what the item leaves
   pub line-found : (i : Item) → lineOf t r (asFound i) ≡ lineOf t r i
@@ -128,7 +128,7 @@ module _ (t : Table) (table : faultOf t ≡ fault.Good) where
   lines-alike w v (Frame time bytes ∷ l) = ap (λ x. shown x ∷ linesOf t (run 1 (call x .words)) l) (start-alike time w v)
     where
       call : Lent → After
-      call x = judgeOf t x (arrival time bytes) blank
+      call x = judgeOf t x (arrival time 0 bytes) blank
 
       shown : Lent → Line
       shown x = lineAs 0 time (call x .said) (call x .space)

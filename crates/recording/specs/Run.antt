@@ -35,9 +35,9 @@ run place w = record { place = place; words = w }
 abbrev pub begun : Table → Run → ℕ → Lent
 begun t r time = cond (eqb (r .place) 0) (startOf t time (r .words) .words) (r .words)
 
--- the call that judges a frame, by 01's own definition, with an event space of 256 zeros
+-- the call that judges a frame, by 01's own definition, with an event space of 256 zeros; 6/12: "captures .. use socket 0"
 unfoldable pub judged : Table → Run → ℕ → List ℕ → After
-judged t r time bytes = judgeOf t (begun t r time) (arrival time bytes) (copies eventRoom 0)
+judged t r time bytes = judgeOf t (begun t r time) (arrival time 0 bytes) (copies eventRoom 0)
 
 -- "event number or 0": an event begins with its number
 unfoldable pub eventNumber : ℕ → List ℕ → ℕ

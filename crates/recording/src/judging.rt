@@ -42,7 +42,7 @@ fn event_number(length: usize, space: &[u8; ROOM]) -> u16
     read16(space, 0)
 }
 
-// The line of a frame at a place, for a good table and good records once one has begun them.
+// The line of a frame at a place, for a good table and good records once one has begun them: "captures .. use socket 0", not the second.
 pub(crate) fn judge(
     t: &TableWords,
     place: u64,
@@ -73,7 +73,7 @@ pub(crate) fn judge(
         Shown::Shows(l) => l,
     };
     let mut space = [0u8; ROOM];
-    let a = step(t, frame, l, time, head, counts, places, &mut space);
+    let a = step(t, false, frame, l, time, head, counts, places, &mut space);
     let v = a.verdict;
     Line::Judged {
         place,

@@ -1,7 +1,7 @@
 -- Laws of good records in the words of the code's branches.
 -- Assumes nothing.
 use Prim.Native.Nat.{ℕ, _<_, _≤_, min}
-use mathlib.Core.Path.{_≡_, refl, sym, ap, _∙_}
+use mathlib.Core.Path.{_≡_, refl, sym, ap, ap₂, _∙_}
 use mathlib.Core.Bool.{Bool, true, _&&_, _||_}
 use mathlib.Core.List.{List, []}
 use lib.ListN.{length, getD, take, length-take, length-map, List·getD-eq-default}
@@ -21,7 +21,7 @@ use Rattle.places.specs.Good.{isEmpty, emptyFrom}
 use Rattle.numbers.proofs.Tests.{by-less, both-ways, and-true, and-assoc, or-first, or-second, or-rest}
 use Rattle.verdicts.specs.Record.{noRecord, ruleOf}
 use Rattle.records.specs.Records.{ruleRecords, recordsOf, lent}
-use Rattle.verdicts.specs.Good.{levelGood, recordGood}
+use Rattle.verdicts.specs.Good.{levelsGood, recordGood}
 use Rattle.records.specs.Good.{ruleOfRecord, levelFrom, slotsGood, recordsGood}
 use Rattle.verdicts.proofs.GoodCode.{level-unset, none-is}
 use Rattle.records.proofs.GoodLaws.{rule-within, rule-beyond}
@@ -41,10 +41,16 @@ rule-good t cs ps i b k m h e =
     ∙ ap (recordGood (ruleOfRecord (tableIn t) i)) (sym (rules-at cs ps i h))
 
 -- a slot without a rule
+abbrev noLevels : List ℕ → Bool
+noLevels c = levelsGood bucket.Unset (ruleOf c [])
+
+pub no-levels-is : (c : List ℕ) → (eqb (getD c 0 0) 0 && eqb (getD c 1 0) 0) ≡ noLevels c
+no-levels-is c = ap₂ _&&_ (level-unset (getD c 0 0)) (level-unset (getD c 1 0))
+
 slot-is : (t : Table) (cs : List (List ℕ)) (ps : List (List (List ℕ))) (k : ℕ) → t .rulecount ≤ k → k < length cs
-    → (eqb (getD (getD cs k []) 0 0) 0 && isEmpty (getD ps k [])) ≡ goodAt t cs ps k
+    → (noLevels (getD cs k []) && isEmpty (getD ps k [])) ≡ goodAt t cs ps k
 slot-is t cs ps k g h =
-    none-is (ruleOf (getD cs k []) (getD ps k [])) _ _ (level-unset (getD (getD cs k []) 0 0)) refl
+    none-is (ruleOf (getD cs k []) (getD ps k [])) _ _ refl refl
     ∙ ap (recordGood noRule) (sym (rules-at cs ps k h))
     ∙ ap (λ (r : Rule). recordGood r (getD (ruleRecords cs ps) k noRecord)) (sym (rule-beyond t k g))
 
@@ -68,14 +74,14 @@ module _ (t : Table) (cs : List (List ℕ)) (ps : List (List (List ℕ))) (n : �
       (or-rest (ltb k n) _ (below-at (emptyFrom n ps) 64 k (b .1) m) (le-ltb k n h)))))
       (λ e. and-true-true (below-all (levelFrom n cs) 64 (λ k m. behind k (levels e k m))) (below-all (emptyFrom n ps) 64 (λ k m. behind k (empties e k m))))
     where
-      good : allBelow (goodAt t cs ps) 64 ≡ true → (k : ℕ) → k < 64 → n ≤ k → (eqb (getD (getD cs k []) 0 0) 0 && isEmpty (getD ps k [])) ≡ true
+      good : allBelow (goodAt t cs ps) 64 ≡ true → (k : ℕ) → k < 64 → n ≤ k → (noLevels (getD cs k []) && isEmpty (getD ps k [])) ≡ true
       good e k m h = slot-is t cs ps k (beyond k h m) (omega arith) ∙ below-at (goodAt t cs ps) 64 k e m
 
-      levels : allBelow (goodAt t cs ps) 64 ≡ true → (k : ℕ) → k < 64 → n ≤ k → eqb (getD (getD cs k []) 0 0) 0 ≡ true
-      levels e k m h = and-both (eqb (getD (getD cs k []) 0 0) 0) (isEmpty (getD ps k [])) (good e k m h) .0
+      levels : allBelow (goodAt t cs ps) 64 ≡ true → (k : ℕ) → k < 64 → n ≤ k → noLevels (getD cs k []) ≡ true
+      levels e k m h = and-both (noLevels (getD cs k [])) (isEmpty (getD ps k [])) (good e k m h) .0
 
       empties : allBelow (goodAt t cs ps) 64 ≡ true → (k : ℕ) → k < 64 → n ≤ k → isEmpty (getD ps k []) ≡ true
-      empties e k m h = and-both (eqb (getD (getD cs k []) 0 0) 0) (isEmpty (getD ps k [])) (good e k m h) .1
+      empties e k m h = and-both (noLevels (getD cs k [])) (isEmpty (getD ps k [])) (good e k m h) .1
 
       behind : (k : ℕ) {b : Bool} → (n ≤ k → b ≡ true) → (ltb k n || b) ≡ true
       behind k {b} h = by-less k n (λ lt. or-first (ltb k n) b (lt-ltb k n lt)) (λ ge. or-second (ltb k n) b (h ge))
@@ -87,7 +93,7 @@ rules-64 t e = length-map (take 64 t) ruleIn ∙ length-take 64 t ∙ ap (min 64
 -- the active state, the rules, and the default
 pub all-is : (t : Table) (h : List ℕ) (cs : List (List ℕ)) (ps : List (List (List ℕ))) (a b c : Bool) → length (t .rules) ≡ 64 → length cs ≡ 65 → length ps ≡ 64
     → a ≡ ltb (getD h 1 0) (t .statecount) → b ≡ allBelow (goodAt t cs ps) 64
-    → c ≡ levelGood bucket.Unset (getD (getD cs 64 []) 0 0)
+    → c ≡ levelsGood bucket.Unset (ruleOf (getD cs 64 []) [])
     → ((a && b) && c) ≡ recordsGood t (recordsOf (lent h cs ps))
 unfolding recordsGood recordsOf allBelow
 all-is t h cs ps a b c l m n e f g =

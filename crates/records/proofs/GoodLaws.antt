@@ -25,12 +25,12 @@ use Rattle.table.specs.declared.Bucket.the-variants as bucket
 use Rattle.table.specs.declared.Tracking.the-variants as tracking
 use Rattle.places.specs.Places.{free, isFree, Fits}
 use Rattle.places.specs.Ageing.{agedPlaces}
-use Rattle.places.specs.Good.{young, clean, limitIn, fitsKind}
+use Rattle.places.specs.Good.{young, clean, roomIn, fitsKind}
 use Rattle.conversations.specs.declared.Turn.{Turn}
 use Rattle.numbers.proofs.Tests.{by-test, by-less, or-second}
 use Rattle.places.proofs.HoldLaws.{free-holds}
 use Rattle.places.proofs.PlaceLaws.{free-fits}
-use Rattle.places.proofs.PlacesLaws.{at}
+use Rattle.places.proofs.PlacesLaws.{at, none-held}
 use Rattle.conversations.proofs.KeptLaws.{LimitGood}
 use Rattle.verdicts.specs.Record.{RuleRecord, noRecord}
 use Rattle.records.specs.Records.{Records, recordAt, default, ShapedRecords}
@@ -39,6 +39,7 @@ use Rattle.verdicts.specs.Good.{hasBucket, recordTests, recordGood}
 use Rattle.records.specs.Good.{ruleOfRecord, recordGoodAt, recordsGood}
 use Rattle.records.specs.Step.{freshRule, freshOf, switchedTo, ticked, reactedAt, reaction, acted}
 use Rattle.verdicts.proofs.RuleLaws.{
+  LevelGood,
   good-out,
   aged-zero,
   aged-good,
@@ -77,7 +78,7 @@ aged-no-rule e x = refl
 
 pub aged-no-record : (e : ℕ) (r : Rule) → aged e r noRecord ≡ noRecord
 unfolding aged
-aged-no-record e r = λ i. record { level = level (bucketOf r) i; passed = 0; blocked = 0; places = places (trackingOf r) i }
+aged-no-record e r = λ i. record { level0 = level (bucketOf r) i; level1 = level (bucketOf r) i; passed = 0; blocked = 0; places = places (trackingOf r) i }
   where
     level : (b : Bucket) → drained b e 0 ≡ 0
     level bucket.Unset = refl
@@ -175,7 +176,7 @@ at-plain t state g d x y p =
 abbrev pub Decider : Table → ℕ → Type 0
 Decider t d = d < default → d < t .rulecount
 
--- goodness looks at level and places alone
+-- goodness looks at levels and places alone
 default-good : (r : Rule) (a : Action) (x : RuleRecord) → recordGood r x ≡ true → recordGood r (defaulted a x .after) ≡ true
 unfolding recordGood recordTests
 default-good r a x h = h
@@ -235,16 +236,23 @@ unfolding switchedTo
 switch-good t state s m h = all-good t (switchedTo state s) m (good-record t s h)
 
 -- places that are all free are good for every rule
-free-good : (r : Rule) (x : RuleRecord) → x .level ≡ 0 → ((i : ℕ) → at (x .places) i ≡ free) → recordGood r x ≡ true
-free-good r x l f =
+free-good : (r : Rule) (x : RuleRecord) → x .level0 ≡ 0 → x .level1 ≡ 0 → ((i : ℕ) → at (x .places) i ≡ free) → recordGood r x ≡ true
+free-good r x l m f =
     good-out r x
-    (record { most = omega arith; none = or-second (hasBucket (bucketOf r)) _ (ap (λ n. eqb n 0) l) })
     (record {
-      spare = λ i h. ap isFree (f i);
-      single = λ q i j h k. absurd (false≢true (sym (free-holds q (at (x .places) i) (ap isFree (f i))) ∙ h));
-      young = λ i. ap (young (limitIn (trackingOf r))) (f i);
-      clean = λ i. ap clean (f i);
+      level0 = empty (x .level0) l;
+      level1 = empty (x .level1) m;
+      places = record {
+        spare = λ i h. ap isFree (f i);
+        single = λ q i j h k. absurd (false≢true (sym (free-holds q (at (x .places) i) (ap isFree (f i))) ∙ h));
+        young = λ i. ap (young (roomIn (trackingOf r) .limit)) (f i);
+        clean = λ i. ap clean (f i);
+        numbers = λ k. none-held (x .places) (λ i. ap isFree (f i)) k _;
+      };
     })
+  where
+    empty : (l : ℕ) → l ≡ 0 → LevelGood (bucketOf r) l
+    empty l e = record { most = omega arith; none = or-second (hasBucket (bucketOf r)) _ (ap (λ n. eqb n 0) e) }
 
 copies-free : (n i : ℕ) → at (copies n free) i ≡ free
 copies-free zero i = refl
@@ -265,7 +273,7 @@ fresh-good t reading e =
     all-good t (freshOf reading) (good-states t e .0)
     (λ i m.
     let r : Rule = ruleOfRecord t i in
-    fresh-by (λ x. recordGood r x ≡ true) (free-good r freshRule refl (copies-free 8)) (free-good r noRecord refl (λ j. refl)) 64 i)
+    fresh-by (λ x. recordGood r x ≡ true) (free-good r freshRule refl refl (copies-free 8)) (free-good r noRecord refl refl (λ j. refl)) 64 i)
 
 -- ---- no time
 

@@ -15,10 +15,10 @@ use Rattle.records.specs.Records.{Records, Lent, ruleRecords, recordsOf,
 
 -- ---- from words and back
 
-counts-back : (cs : List (List ℕ)) (ps : List (List (List ℕ))) → All (λ c. length c ≡ 3) cs → map countRow (ruleRecords cs ps) ≡ cs
+counts-back : (cs : List (List ℕ)) (ps : List (List (List ℕ))) → All (λ c. length c ≡ 4) cs → map countRow (ruleRecords cs ps) ≡ cs
 counts-back [] ps a = refl
-counts-back (c ∷ cs) [] a = ap₂ _∷_ (row-back 3 c (a .0)) (counts-back cs [] (a .1))
-counts-back (c ∷ cs) (p ∷ ps) a = ap₂ _∷_ (row-back 3 c (a .0)) (counts-back cs ps (a .1))
+counts-back (c ∷ cs) [] a = ap₂ _∷_ (row-back 4 c (a .0)) (counts-back cs [] (a .1))
+counts-back (c ∷ cs) (p ∷ ps) a = ap₂ _∷_ (row-back 4 c (a .0)) (counts-back cs ps (a .1))
 
 rows-back :
     (n : ℕ) (cs : List (List ℕ)) (ps : List (List (List ℕ))) → length ps ≡ n → n ≤ length cs → All ShapedPlaces ps
@@ -42,10 +42,10 @@ words-back w h = λ i. record {
 -- ---- from records and back
 
 rule-same : (x : RuleRecord) → All Fits (x .places) → ruleOf (countRow x) (placeRows x) ≡ x
-rule-same x h = λ i. record { level = x .level; passed = x .passed; blocked = x .blocked; places = places-same (x .places) h i }
+rule-same x h = λ i. record { level0 = x .level0; level1 = x .level1; passed = x .passed; blocked = x .blocked; places = places-same (x .places) h i }
 
 bare-same : (x : RuleRecord) → length (x .places) ≡ 0 → ruleOf (countRow x) [] ≡ x
-bare-same x h = λ i. record { level = x .level; passed = x .passed; blocked = x .blocked; places = sym (nil-of (x .places) h) i }
+bare-same x h = λ i. record { level0 = x .level0; level1 = x .level1; passed = x .passed; blocked = x .blocked; places = sym (nil-of (x .places) h) i }
 
 -- the first n have places, which fit into words, the others none
 rules-same :
@@ -110,7 +110,7 @@ pub words-shaped : (s : Records) → ShapedRecords s → Shaped (wordsOf s)
 unfolding wordsOf
 words-shaped s h = record {
   head = refl;
-  counts = (length-map (s .rules) countRow ∙ h .rules, All-map countRow (λ c. length c ≡ 3) noRecord (s .rules) (λ i m. refl));
+  counts = (length-map (s .rules) countRow ∙ h .rules, All-map countRow (λ c. length c ≡ 4) noRecord (s .rules) (λ i m. refl));
   places = (
     length-map (take 64 (s .rules)) placeRows ∙ few,
     All-map placeRows ShapedPlaces noRecord (take 64 (s .rules))

@@ -5,14 +5,15 @@ use mathlib.Core.Path.{_≡_}
 use mathlib.Core.Bool.{Bool, true, _&&_, _||_}
 use mathlib.Core.List.{List, []}
 use lib.ListN.{getD}
-use lib.Dec.{ltb, eqb}
+use lib.Dec.{ltb}
 use Rattle.numbers.specs.Lists.{allBelow}
 use Rattle.table.specs.declared.Rule.{Rule}
+use Rattle.table.specs.declared.Bucket.the-variants as bucket
 use Rattle.table.specs.declared.Table.{Table}
 use Rattle.table.specs.Table.{noRule, rulesOf, mostRules}
 use Rattle.places.specs.Good.{emptyFrom}
-use Rattle.verdicts.specs.Record.{RuleRecord, noRecord, levelWord}
-use Rattle.verdicts.specs.Good.{recordGood}
+use Rattle.verdicts.specs.Record.{RuleRecord, noRecord, ruleOf}
+use Rattle.verdicts.specs.Good.{levelsGood, recordGood}
 use Rattle.records.specs.Records.{Records, recordAt, countRows}
 
 -- the rule of a record: none at the default's place, nor beyond the rule count
@@ -33,7 +34,7 @@ rulesGood t xs = allBelow (λ i. recordGood (ruleOfRecord t i) (getD xs i noReco
 
 -- the slot at k has no level, where it is one from n on
 abbrev pub levelFrom : ℕ → List (List ℕ) → ℕ → Bool
-levelFrom n cs k = ltb k n || eqb (getD (getD cs k []) levelWord 0) 0
+levelFrom n cs k = ltb k n || levelsGood bucket.Unset (ruleOf (getD cs k []) [])
 
 -- the slots from n on, which have no rule: no level, and places as in a fresh record
 abbrev pub slotsGood : ℕ → List (List ℕ) → List (List (List ℕ)) → Bool

@@ -17,7 +17,7 @@ use Rattle.verdicts.specs.Rule.{aged, reacted, Reacted, defaulted}
 
 -- "A fresh record takes a table and a start reading: state 0, all else empty or zero"
 abbrev pub freshRule : RuleRecord
-freshRule = record { level = 0; passed = 0; blocked = 0; places = copies mostPlaces free }
+freshRule = record { level0 = 0; level1 = 0; passed = 0; blocked = 0; places = copies mostPlaces free }
 
 -- 64 of them, and the default's
 unfoldable pub freshOf : ℕ → Records

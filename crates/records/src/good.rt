@@ -13,8 +13,9 @@ use table::Bucket;
 use table::RULES;
 use table::words;
 use table::words::TableWords;
-use verdicts::LEVEL;
-use verdicts::good::good_level;
+use verdicts::LEVEL0;
+use verdicts::LEVEL1;
+use verdicts::good::good_levels;
 use verdicts::good::good_rule;
 
 // No slot from one on has a level: it has no rule, and so no bucket.
@@ -26,7 +27,7 @@ fn no_levels(from: usize, counts: &Counts) -> bool
     let mut any = 0;
     let mut i = from;
     while i < RULES {
-        any = any | counts[i][LEVEL];
+        any = any | (counts[i][LEVEL0] | counts[i][LEVEL1]);
         i += 1;
     }
     any == 0
@@ -74,5 +75,5 @@ pub fn good(t: &TableWords, head: &Head, counts: &Counts, places: &Places) -> bo
     let states = words::statecount(t) as u64;
     (head[ACTIVE] < states)
         & good_rules(t, counts, places)
-        & good_level(Bucket::Unset, counts[DEFAULT][LEVEL])
+        & good_levels(Bucket::Unset, &counts[DEFAULT])
 }

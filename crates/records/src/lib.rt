@@ -11,7 +11,7 @@ use verdicts::CountWords;
 
 // Last reading, active state.
 pub type Head = [u64; HEAD_WORDS];
-// Per rule level, passed, blocked; the last row is the default's.
+// Per rule the levels, passed, blocked; the last row is the default's.
 pub type Counts = [CountWords; COUNT_ROWS];
 // Per rule its places for conversations; the default has none.
 pub type Places = AllPlaces;

@@ -74,24 +74,38 @@ few-places t state x d e q h =
 -- ---- what tracking looks at
 
 pub turn-tcp :
-    (x : Ip) (y : Transport) (g : Segment) (k : Flags) (a b : ℕ) → y ≡ transport.Tcp g → a ≡ g .source → b ≡ g .destination
-    → k ≡ kindOf (g .fin) (g .syn) (g .rst) (g .ack) → (q : Quad) → q ≡ quadOf x (a * 65536 + b)
-    → _≡_ {A = Turn} (record { quad = q; flags = k }) (turnIn x y)
-turn-tcp x y g k a b f h m n q w = rw (w, f, h, m, n)
+    (s : Bool) (x : Ip) (y : Transport) (g : Segment) (k : Flags) (a b : ℕ) → y ≡ transport.Tcp g → a ≡ g .source → b ≡ g .destination
+    → k ≡ kindOf (g .fin) (g .syn) (g .rst) (g .ack) → (q : Quad) → q ≡ quadOf s x (a * 65536 + b)
+    → _≡_ {A = Turn} (record { quad = q; flags = k }) (turnIn s x y)
+turn-tcp s x y g k a b f h m n q w = rw (w, f, h, m, n)
 
 -- whatever is tracked, its addresses are of their kind
-quad-plain : (x : Ip) (ports : ℕ) → fitsKind (quadOf x ports) ≡ true
-quad-plain ip.Absent ports = refl
-quad-plain (ip.V4 p) ports = quad-ipv4 (p .source) (p .destination) ports
-quad-plain (ip.V6 p) ports = quad-ipv6 (p .source) (p .destination) ports
+quad-plain : (s : Bool) (x : Ip) (ports : ℕ) → fitsKind (quadOf s x ports) ≡ true
+quad-plain s ip.Absent ports = refl
+quad-plain s (ip.V4 p) ports = quad-ipv4 s (p .source) (p .destination) ports
+quad-plain s (ip.V6 p) ports = quad-ipv6 s (p .source) (p .destination) ports
 
-turn-in-plain : (x : Ip) (y : Transport) → fitsKind (turnIn x y .quad) ≡ true
-turn-in-plain x transport.Absent = refl
-turn-in-plain x (transport.Udp u) = refl
-turn-in-plain x (transport.Tcp t) = quad-plain x (t .source * 65536 + t .destination)
+turn-in-plain : (s : Bool) (x : Ip) (y : Transport) → fitsKind (turnIn s x y .quad) ≡ true
+turn-in-plain s x transport.Absent = refl
+turn-in-plain s x (transport.Udp u) = refl
+turn-in-plain s x (transport.Tcp t) = quad-plain s x (t .source * 65536 + t .destination)
 
 pub turn-plain : (x : Seen) → fitsKind (turnOf x .quad) ≡ true
-turn-plain x = turn-in-plain (x .layers .ip) (x .layers .transport)
+turn-plain x = turn-in-plain (x .second) (x .layers .ip) (x .layers .transport)
+
+-- and its socket is the frame's
+quad-second : (s : Bool) (x : Ip) (ports : ℕ) → quadOf s x ports .second ≡ s
+quad-second s ip.Absent ports = refl
+quad-second s (ip.V4 p) ports = refl
+quad-second s (ip.V6 p) ports = refl
+
+turn-in-second : (s : Bool) (x : Ip) (y : Transport) → turnIn s x y .quad .second ≡ s
+turn-in-second s x transport.Absent = refl
+turn-in-second s x (transport.Udp u) = refl
+turn-in-second s x (transport.Tcp t) = quad-second s x (t .source * 65536 + t .destination)
+
+pub turn-second : (x : Seen) → turnOf x .quad .second ≡ x .second
+turn-second x = turn-in-second (x .second) (x .layers .ip) (x .layers .transport)
 
 -- ---- the best fit
 

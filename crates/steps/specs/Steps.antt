@@ -36,38 +36,46 @@ use Rattle.steps.specs.declared.Answer.{Answer}
 use Rattle.steps.specs.declared.Report.{Report}
 use Rattle.steps.specs.declared.Report.the-variants as report
 
--- what arrives: a clock reading, and the frame's bytes
+-- what arrives: a clock reading, the socket on which the frame comes (6/12), and its bytes
 pub record Arrival : Type 0 where
   pub reading : ℕ
+  pub socket : ℕ
   pub bytes : List ℕ
 
 -- made of its parts
-abbrev pub arrival : ℕ → List ℕ → Arrival
-arrival reading bytes = record { reading = reading; bytes = bytes }
+abbrev pub arrival : ℕ → ℕ → List ℕ → Arrival
+arrival reading socket bytes = record { reading = reading; socket = socket; bytes = bytes }
+
+-- socket 1, and not socket 0; one above is refused, and never seen
+abbrev pub isSecond : ℕ → Bool
+isSecond socket = eqb socket 1
 
 -- what is seen of it, by the layers that it shows
 abbrev pub seenOf : Arrival → Layers → Seen
-seenOf a l = seen (a .bytes) l
+seenOf a l = seen (isSecond (a .socket)) (a .bytes) l
 
--- what tracking looks at: addresses, ports and flags of a TCP segment; nothing that it knows where there is none
-abbrev pub noTurn : Turn
-noTurn = record { quad = noQuad; flags = flags.Wrong }
+-- what a rule looks at: the socket, addresses, ports and flags of a TCP segment; no more than the socket where there is none
+abbrev pub noTurn : Bool → Turn
+noTurn second = record { quad = noQuad second; flags = flags.Wrong }
 
 -- the conversation between the addresses of a packet of either kind
-abbrev pub quadOf : Ip → ℕ → Quad
-quadOf ip.Absent ports = noQuad
-quadOf (ip.V4 p) ports = ipv4Quad (p .source) (p .destination) ports
-quadOf (ip.V6 p) ports = ipv6Quad (p .source) (p .destination) ports
+abbrev pub quadOf : Bool → Ip → ℕ → Quad
+quadOf second ip.Absent ports = noQuad second
+quadOf second (ip.V4 p) ports = ipv4Quad second (p .source) (p .destination) ports
+quadOf second (ip.V6 p) ports = ipv6Quad second (p .source) (p .destination) ports
 
 -- by the layers that tell it
-abbrev pub turnIn : Ip → Transport → Turn
-turnIn i (transport.Tcp t) = record { quad = quadOf i (t .source * 65536 + t .destination); flags = kindOf (t .fin) (t .syn) (t .rst) (t .ack) }
-turnIn i transport.Absent = noTurn
-turnIn i (transport.Udp u) = noTurn
+abbrev pub turnIn : Bool → Ip → Transport → Turn
+turnIn second i (transport.Tcp t) = record {
+  quad = quadOf second i (t .source * 65536 + t .destination);
+  flags = kindOf (t .fin) (t .syn) (t .rst) (t .ack);
+}
+turnIn second i transport.Absent = noTurn second
+turnIn second i (transport.Udp u) = noTurn second
 
 -- of what is seen of a frame
 abbrev pub turnOf : Seen → Turn
-turnOf x = turnIn (x .layers .ip) (x .layers .transport)
+turnOf x = turnIn (x .second) (x .layers .ip) (x .layers .transport)
 
 -- "the deciding rule's id (65,535 for the default)"
 abbrev pub idAt : Table → ℕ → ℕ

@@ -60,35 +60,35 @@ pub enum Report {
     BestFit,
 }
 
-fn no_turn() -> Turn
-    ensures { λ r. ⌜ r ≡ noTurn ⌝ }
+fn no_turn(second: bool) -> Turn
+    ensures { λ r. ⌜ r ≡ noTurn second ⌝ }
 {
     Turn {
-        quad: no_quad(),
+        quad: no_quad(second),
         flags: Flags::Wrong,
     }
 }
 
 // The conversation between the addresses of a packet of either kind, none where there is no packet.
-fn quad_of(ip: Ip, ports: u32) -> Quad
-    ensures { λ r. ⌜ r ≡ quadOf ip ports ⌝ }
+fn quad_of(second: bool, ip: Ip, ports: u32) -> Quad
+    ensures { λ r. ⌜ r ≡ quadOf second ip ports ⌝ }
 {
     match ip {
-        Ip::Absent => no_quad(),
-        Ip::V4(p) => ipv4_quad(p.source, p.destination, ports),
-        Ip::V6(p) => ipv6_quad(p.source, p.destination, ports),
+        Ip::Absent => no_quad(second),
+        Ip::V4(p) => ipv4_quad(second, p.source, p.destination, ports),
+        Ip::V6(p) => ipv6_quad(second, p.source, p.destination, ports),
     }
 }
 
-// What tracking looks at: addresses, ports and flags of a TCP segment.
-pub(crate) fn turn(ip: Ip, t: Transport) -> Turn
-    ensures { λ r. ⌜ r ≡ turnIn ip t ⌝ }
+// What a rule looks at: the socket, addresses, ports and flags of a TCP segment.
+pub(crate) fn turn(second: bool, ip: Ip, t: Transport) -> Turn
+    ensures { λ r. ⌜ r ≡ turnIn second ip t ⌝ }
 {
     match t {
-        Transport::Absent => no_turn(),
-        Transport::Udp(_) => no_turn(),
+        Transport::Absent => no_turn(second),
+        Transport::Udp(_) => no_turn(second),
         Transport::Tcp(s) => Turn {
-            quad: quad_of(ip, wide32(s.source) * 65536 + wide32(s.destination)),
+            quad: quad_of(second, ip, wide32(s.source) * 65536 + wide32(s.destination)),
             flags: flag_kind(s.fin, s.syn, s.rst, s.ack),
         },
     }
@@ -132,22 +132,23 @@ fn event_for(v: Verdict) -> Report
     Report::Nothing
 }
 
-// The mismatch event of the best fit. With no active rule: link and 65,535.
+// The mismatch event of the best fit. With no active rule: link and 65,535. The socket is for the promise alone, here and below: no event shows it.
 fn write_best(
     t: &TableWords,
     state: usize,
     best: Best,
+    second: bool,
     frame: &[u8],
     l: Layers,
     space: &mut [u8],
 ) -> usize
     requires rules { ⌜ tableIn (now t) .rulecount ≤ mostRules ⌝ }
-    requires best { ⌜ best ≡ bestOf (tableIn (now t)) state (seen (now frame) l) ⌝ }
+    requires best { ⌜ best ≡ bestOf (tableIn (now t)) state (seen second (now frame) l) ⌝ }
     requires inside { ⌜ Inside (now frame) l ⌝ }
     requires long { ⌜ least ≤ length (now frame) ⌝ }
     requires room { ⌜ eventRoom ≤ length (now space) ⌝ }
     ensures { λ r. ⌜
-        Wrote (bestEvent (tableIn (now (t .entry))) state (seen (now (frame .entry)) l)) (now (space .entry)) (now (space .exit)) r
+        Wrote (bestEvent (tableIn (now (t .entry))) state (seen second (now (frame .entry)) l)) (now (space .entry)) (now (space .exit)) r
         ⌝ }
 {
     tell_table(*t);
@@ -169,6 +170,7 @@ fn write_event(
     t: &TableWords,
     state: usize,
     best: Best,
+    second: bool,
     frame: &[u8],
     l: Layers,
     d: usize,
@@ -176,25 +178,26 @@ fn write_event(
     space: &mut [u8],
 ) -> usize
     requires rules { ⌜ tableIn (now t) .rulecount ≤ mostRules ⌝ }
-    requires best { ⌜ best ≡ bestOf (tableIn (now t)) state (seen (now frame) l) ⌝ }
+    requires best { ⌜ best ≡ bestOf (tableIn (now t)) state (seen second (now frame) l) ⌝ }
     requires inside { ⌜ Inside (now frame) l ⌝ }
     requires long { ⌜ least ≤ length (now frame) ⌝ }
     requires room { ⌜ eventRoom ≤ length (now space) ⌝ }
     ensures { λ r. ⌜
-        Wrote (eventOf (tableIn (now (t .entry))) state (seen (now (frame .entry)) l) d (v .number)) (now (space .entry)) (now (space .exit)) r
+        Wrote (eventOf (tableIn (now (t .entry))) state (seen second (now (frame .entry)) l) d (v .number)) (now (space .entry)) (now (space .exit)) r
         ⌝ }
 {
     let report = event_for(v);
     match report {
         Report::Nothing => 0,
         Report::Own(e) => write(e, id_at(t, d), frame, l, space),
-        Report::BestFit => write_best(t, state, best, frame, l, space),
+        Report::BestFit => write_best(t, state, best, second, frame, l, space),
     }
 }
 
 // Steps 1 to 5, and the event.
 pub fn step(
     t: &TableWords,
+    second: bool,
     frame: &[u8],
     l: Layers,
     reading: u64,
@@ -203,27 +206,28 @@ pub fn step(
     places: &mut Places,
     space: &mut [u8],
 ) -> Answer
-    requires { ⌜ Ready (tableIn (now t)) (lent (now head) (now counts) (now places)) (seen (now frame) l) (now space) ⌝ }
+    requires { ⌜ Ready (tableIn (now t)) (lent (now head) (now counts) (now places)) (seen second (now frame) l) (now space) ⌝ }
     ensures outcome { λ r. ⌜
         stepped r (after head counts places) (now (space .exit))
-        ≡ steppedAs (outcomeOf (tableIn (now (t .entry))) (recordsOf (before head counts places)) reading (seen (now (frame .entry)) l)) (now (space .entry))
+        ≡ steppedAs (outcomeOf (tableIn (now (t .entry))) (recordsOf (before head counts places)) reading (seen second (now (frame .entry)) l))
+        (now (space .entry))
         ⌝ }
     ensures records { λ r. ⌜
         recordsOf (after head counts places)
-        ≡ outcomeOf (tableIn (now (t .entry))) (recordsOf (before head counts places)) reading (seen (now (frame .entry)) l) .records
+        ≡ outcomeOf (tableIn (now (t .entry))) (recordsOf (before head counts places)) reading (seen second (now (frame .entry)) l) .records
         ⌝ }
 {
     let state = head[ACTIVE] as usize;
     let ip = l.ip;
     let transport = l.transport;
-    let g = turn(ip, transport);
-    let decision = decide(t, state, frame, l);
+    let g = turn(second, ip, transport);
+    let decision = decide(t, state, second, frame, l);
     let best = decision.best;
     let d = decision.decider;
     tick(t, reading, head, counts, places);
     let v = act(t, g, d, head, counts, places);
     shape(*head, *counts, *places);
-    let length = write_event(t, state, best, frame, l, d, v, space);
+    let length = write_event(t, state, best, second, frame, l, d, v, space);
     Answer {
         verdict: v,
         rule: id_at(t, d),

@@ -6,7 +6,7 @@ use mathlib.Core.List.{List, [], _∷_}
 use mathlib.Core.Bool.{Bool, true, false, cond, not, _&&_}
 use native.Mathlib.Numerals.{add-one}
 use native.Mathlib.Omega.{arith}
-use borrow.Author.Tests.{eq-eqb, ne-eqb}
+use borrow.Author.Tests.{eq-eqb, ne-eqb, eqb-true}
 use lib.Dec.{eqb}
 use lib.Pow.{shr-shr, mod-pow-add}
 use Rattle.numbers.specs.Lists.{every}
@@ -64,6 +64,30 @@ none-marked w k (suc n) =
     ap (λ (x : Bool). not (marked w k) && x) (none-marked w (suc k) n ∙ ap (λ (x : ℕ). eqb (x % 2 ^ n) 0) a)
     ∙ low-first (m / 2 ^ 1 % 2 ^ n) (m % 2) (omega arith)
     ∙ ap (λ (x : ℕ). eqb x 0) (sym b)
+
+-- four marks side by side all stand
+module _ (w : ℕ) where
+  pub four-marked : w % 16 ≡ 15 → (marked w 0 ≡ true) × (marked w 1 ≡ true) × (marked w 2 ≡ true) × (marked w 3 ≡ true)
+  unfolding marked
+  four-marked e = (
+    eq-eqb (w / 2 ^ 0 % 2) 1 (omega arith),
+    eq-eqb (w / 2 ^ 1 % 2) 1 (omega arith),
+    eq-eqb (w / 2 ^ 2 % 2) 1 (omega arith),
+    eq-eqb (w / 2 ^ 3 % 2) 1 (omega arith),
+  )
+
+  pub marked-four : marked w 0 ≡ true → marked w 1 ≡ true → marked w 2 ≡ true → marked w 3 ≡ true → w % 16 ≡ 15
+  unfolding marked
+  marked-four a b c d =
+      let m = w / 2 ^ 1 in
+      let n = m / 2 ^ 1 in
+      let x : n / 2 ^ 1 % 2 ≡ 1 = ap (λ (k : ℕ). k % 2) (shr-shr m 1 1 ∙ shr-shr w 1 2) ∙ eqb-true (w / 2 ^ 3 % 2) 1 d in
+      let y : n % 2 ≡ 1 = ap (λ (k : ℕ). k % 2) (shr-shr w 1 1) ∙ eqb-true (w / 2 ^ 2 % 2) 1 c in
+      let z : m % 2 ≡ 1 = eqb-true (w / 2 ^ 1 % 2) 1 b in
+      let o : w % 2 ≡ 1 = omega (arith, eqb-true (w / 2 ^ 0 % 2) 1 a) in
+      let p : n % 4 ≡ 3 = mod-pow-add n 1 1 ∙ (λ i. x i * 2 + y i) in
+      let q : m % 8 ≡ 7 = mod-pow-add m 2 1 ∙ (λ i. p i * 2 + z i) in
+      mod-pow-add w 3 1 ∙ (λ i. q i * 2 + o i)
 
 -- ---- the settings of a layer
 

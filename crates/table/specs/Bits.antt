@@ -34,6 +34,12 @@ etherMark = 4
 abbrev pub etherAt : ℕ
 etherAt = 32
 
+abbrev pub socketMark : ℕ
+socketMark = 5
+
+abbrev pub socketAt : ℕ
+socketAt = 48
+
 -- IP: a prefix has its length in the head word, its address beside it
 abbrev pub sourcePrefixMark : ℕ
 sourcePrefixMark = 0
@@ -153,3 +159,15 @@ limitMark = 1
 
 abbrev pub limitAt : ℕ
 limitAt = 16
+
+abbrev pub number0Mark : ℕ
+number0Mark = 2
+
+abbrev pub number0At : ℕ
+number0At = 48
+
+abbrev pub number1Mark : ℕ
+number1Mark = 3
+
+abbrev pub number1At : ℕ
+number1At = 56

@@ -18,6 +18,7 @@ linkUnset s =
     ∷ isUnset (of16 (s .vlan))
     ∷ isUnset (of8 (s .priority))
     ∷ isUnset (of16 (s .ether))
+    ∷ isUnset (of8 (s .socket))
     ∷ []
 
 abbrev pub ipv4Unset : Ipv4Settings → List Bool
@@ -46,4 +47,9 @@ abbrev pub rateUnset : RateSettings → List Bool
 rateUnset s = isUnset (of16 (s .size)) ∷ isUnset (of16 (s .refill)) ∷ []
 
 abbrev pub trackingUnset : TrackingSettings → List Bool
-trackingUnset s = isUnset (of8 (s .places)) ∷ isUnset (of32 (s .limit)) ∷ []
+trackingUnset s =
+    isUnset (of8 (s .places))
+    ∷ isUnset (of32 (s .limit))
+    ∷ isUnset (of8 (s .number0))
+    ∷ isUnset (of8 (s .number1))
+    ∷ []

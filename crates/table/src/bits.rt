@@ -22,6 +22,10 @@ pub(crate) const ETHER_MARK: usize = 4;
 
 pub(crate) const ETHER_AT: usize = 32;
 
+pub(crate) const SOCKET_MARK: usize = 5;
+
+pub(crate) const SOCKET_AT: usize = 48;
+
 // IP: a prefix has its length in the head word, its address beside it.
 pub(crate) const SOURCE_PREFIX_MARK: usize = 0;
 
@@ -103,3 +107,11 @@ pub(crate) const PLACES_AT: usize = 8;
 pub(crate) const LIMIT_MARK: usize = 1;
 
 pub(crate) const LIMIT_AT: usize = 16;
+
+pub(crate) const NUMBER0_MARK: usize = 2;
+
+pub(crate) const NUMBER0_AT: usize = 48;
+
+pub(crate) const NUMBER1_MARK: usize = 3;
+
+pub(crate) const NUMBER1_AT: usize = 56;

@@ -7,11 +7,11 @@ use mathlib.Core.Bool.{Bool, true, false, cond}
 use mathlib.Core.List.{List}
 use lib.ListN.{length}
 use lib.Dec.{ltb}
-use borrow.Author.Tests.{ltb-true, ltb-false, le-ltb}
+use borrow.Author.Tests.{ltb-true, ltb-false, lt-ltb, le-ltb}
 use Rattle.numbers.specs.Lists.{first, written}
 use Rattle.numbers.proofs.Lists.{cond-both}
 use Rattle.layers.specs.Layers.{refusalNumber, shownOf}
-use Rattle.layers.specs.Seen.{Seen, seen}
+use Rattle.layers.specs.Seen.{Seen}
 use Rattle.layers.specs.declared.Layers.{Layers}
 use Rattle.layers.specs.declared.Shown.{Shown}
 use Rattle.layers.specs.declared.Shown.the-variants as shown
@@ -28,7 +28,7 @@ use Rattle.records.specs.Step.{freshOf, switchedTo, ticked, reaction, acted}
 use Rattle.records.proofs.GoodLaws.{ticked-good, ticked-shaped, acted-good, acted-shaped}
 use Rattle.records.proofs.WordLaws.{records-back, records-shaped, words-shaped}
 use Rattle.events.specs.Events.{eventRoom}
-use Rattle.steps.specs.Steps.{Arrival, arrival, turnOf, idAt, eventOf, Outcome, outcomeOf}
+use Rattle.steps.specs.Steps.{Arrival, arrival, seenOf, turnOf, idAt, eventOf, Outcome, outcomeOf}
 use Rattle.steps.proofs.Laws.{decider-rule, turn-plain}
 use Rattle.firewall.specs.Firewall.{
   refused,
@@ -45,6 +45,7 @@ use Rattle.firewall.specs.Firewall.{
   badTable,
   badRecord,
   noSuchState,
+  noSuchSocket,
   startOf,
   switchOf,
   judgedAs,
@@ -75,7 +76,7 @@ reach t state x u =
 
 -- the outcome of a frame that arrives and shows its layers
 abbrev pub outcome : Table → Records → Arrival → Layers → Outcome
-outcome t s a l = outcomeOf t s (a .reading) (seen (a .bytes) l)
+outcome t s a l = outcomeOf t s (a .reading) (seenOf a l)
 
 module _ (t : Table) (s : Records) (a : Arrival) (l : Layers) where
   pub outcome-shaped : ShapedRecords s → ShapedRecords (outcome t s a l .records)
@@ -85,10 +86,10 @@ module _ (t : Table) (s : Records) (a : Arrival) (l : Layers) where
   pub outcome-good : faultOf t ≡ fault.Good → recordsGood t s ≡ true → recordsGood t (outcome t s a l .records) ≡ true
   unfolding outcomeOf
   outcome-good e h =
-      acted-good t _ _ (ticked t (a .reading) s) (turn-plain (seen (a .bytes) l)) e (decider-rule t (s .state) (seen (a .bytes) l)) (ticked-good t (a .reading) s h)
+      acted-good t _ _ (ticked t (a .reading) s) (turn-plain (seenOf a l)) e (decider-rule t (s .state) (seenOf a l)) (ticked-good t (a .reading) s h)
 
 module _ (t : Table) (s : Records) (a : Arrival) (l : Layers) where
-  pub outcome-reach : outcome t s a l ≡ reach t (s .state) (seen (a .bytes) l) (ticked t (a .reading) s)
+  pub outcome-reach : outcome t s a l ≡ reach t (s .state) (seenOf a l) (ticked t (a .reading) s)
   unfolding outcomeOf
   outcome-reach = refl
 
@@ -120,17 +121,22 @@ outcome-kept t w a l e g =
 -- ---- the call judge
 
 module _ (t : Table) (w : Lent) (a : Arrival) (space : List ℕ) where
-  -- a good table and a good record: the frame tells
+  -- a good table and a good record: the socket tells, and where there is such a one the frame
   pub judge-good :
-      faultOf t ≡ fault.Good → recordsGood t (recordsOf w) ≡ true
+      faultOf t ≡ fault.Good → recordsGood t (recordsOf w) ≡ true → a .socket ≤ 1
       → judgeOf t w a space ≡ afterFrame t w a space (shownOf (a .bytes))
   unfolding judgeOf
-  judge-good e h = rw (e, h)
+  judge-good e h k = rw (e, h, le-ltb 1 (a .socket) k)
+
+  pub judge-socket :
+      faultOf t ≡ fault.Good → recordsGood t (recordsOf w) ≡ true → 1 < a .socket → judgeOf t w a space ≡ says noSuchSocket w space
+  unfolding judgeOf
+  judge-socket e h k = rw (e, h, lt-ltb 1 (a .socket) k)
 
   pub judge-shows :
       (l : Layers) → faultOf t ≡ fault.Good → recordsGood t (recordsOf w) ≡ true → Judges a space l
       → judgeOf t w a space ≡ judgedAs (outcome t (recordsOf w) a l) space
-  judge-shows l e h j = judge-good e h ∙ ap (afterFrame t w a space) (j .shows) ∙ rw (le-ltb (length space) eventRoom (j .room))
+  judge-shows l e h j = judge-good e h (j .socket) ∙ ap (afterFrame t w a space) (j .shows) ∙ rw (le-ltb (length space) eventRoom (j .room))
 
 -- one refusal for every frame
 pub record Refuses (t : Table) (w : Lent) : Type 0 where
@@ -155,33 +161,40 @@ good-or-refused t w s = table (faultOf t) refl
 -- what holds of every refusal, and of every judged frame at two readings, from words that are good or bad alike,
 -- holds after every call at these readings
 pub judge-two :
-    (t : Table) (v w : Lent) (bytes space : List ℕ) (n m : ℕ) (P : After → After → Type 0)
+    (t : Table) (v w : Lent) (socket : ℕ) (bytes space : List ℕ) (n m : ℕ) (P : After → After → Type 0)
     → recordsGood t (recordsOf v) ≡ recordsGood t (recordsOf w)
     → ((r : Refusal) → P (says (refused r) v space) (says (refused r) w space))
     → ((l : Layers) → faultOf t ≡ fault.Good → recordsGood t (recordsOf v) ≡ true → shownOf bytes ≡ shown.Shows l → eventRoom ≤ length space
-    → P (judgedAs (outcome t (recordsOf v) (arrival n bytes) l) space) (judgedAs (outcome t (recordsOf w) (arrival m bytes) l) space))
-    → P (judgeOf t v (arrival n bytes) space) (judgeOf t w (arrival m bytes) space)
+    → P (judgedAs (outcome t (recordsOf v) (arrival n socket bytes) l) space) (judgedAs (outcome t (recordsOf w) (arrival m socket bytes) l) space))
+    → P (judgeOf t v (arrival n socket bytes) space) (judgeOf t w (arrival m socket bytes) space)
 unfolding judgeOf
-judge-two t v w bytes space n m P same bad well = table (faultOf t) refl
+judge-two t v w socket bytes space n m P same bad well = table (faultOf t) refl
   where
     room :
         (l : Layers) → shownOf bytes ≡ shown.Shows l → faultOf t ≡ fault.Good → recordsGood t (recordsOf v) ≡ true → (b : Bool)
         → ltb (length space) eventRoom ≡ b
-        → P (cond b (says noSpace v space) (judgedAs (outcome t (recordsOf v) (arrival n bytes) l) space))
-        (cond b (says noSpace w space) (judgedAs (outcome t (recordsOf w) (arrival m bytes) l) space))
+        → P (cond b (says noSpace v space) (judgedAs (outcome t (recordsOf v) (arrival n socket bytes) l) space))
+        (cond b (says noSpace w space) (judgedAs (outcome t (recordsOf w) (arrival m socket bytes) l) space))
     room l q e h true k = bad (plain 3)
     room l q e h false k = well l e h q (ltb-false (length space) eventRoom k)
 
     frame : (x : Shown) → shownOf bytes ≡ x → faultOf t ≡ fault.Good → recordsGood t (recordsOf v) ≡ true
-        → P (afterFrame t v (arrival n bytes) space x) (afterFrame t w (arrival m bytes) space x)
+        → P (afterFrame t v (arrival n socket bytes) space x) (afterFrame t w (arrival m socket bytes) space x)
     frame (shown.Refused f) q e h = bad (plain (refusalNumber f))
     frame (shown.Shows l) q e h = room l q e h (ltb (length space) eventRoom) refl
 
+    frames : Lent → ℕ → Bool → After
+    frames u k b = cond b (says noSuchSocket u space) (afterFrame t u (arrival k socket bytes) space (shownOf bytes))
+
+    by-socket : (b : Bool) → faultOf t ≡ fault.Good → recordsGood t (recordsOf v) ≡ true → P (frames v n b) (frames w m b)
+    by-socket true e h = bad (plain 9)
+    by-socket false e h = frame (shownOf bytes) refl e h
+
     on : Lent → ℕ → Bool → After
-    on u k b = cond b (afterFrame t u (arrival k bytes) space (shownOf bytes)) (says badRecord u space)
+    on u k b = cond b (frames u k (ltb 1 socket)) (says badRecord u space)
 
     records : (b : Bool) → recordsGood t (recordsOf v) ≡ b → faultOf t ≡ fault.Good → P (on v n b) (on w m b)
-    records true h e = frame (shownOf bytes) refl e h
+    records true h e = by-socket (ltb 1 socket) e h
     records false h e = bad (plain 5)
 
     call : Lent → ℕ → Fault → After
@@ -199,7 +212,7 @@ pub judge-by :
     → ((l : Layers) → faultOf t ≡ fault.Good → P (judgedAs (outcome t (recordsOf w) a l) space))
     → P (judgeOf t w a space)
 judge-by t w a space P bad well =
-    judge-two t w w (a .bytes) space (a .reading) (a .reading) (λ x y. P x) refl bad (λ l e h q r. well l e)
+    judge-two t w w (a .socket) (a .bytes) space (a .reading) (a .reading) (λ x y. P x) refl bad (λ l e h q r. well l e)
 
 -- ---- the calls fresh and switch
 

@@ -1,7 +1,7 @@
 -- What the clock can change. Assumes nothing.
 use Prim.Native.Nat.{ℕ, _+_, _-_}
 use native.Mathlib.Omega.{arith}
-use mathlib.Core.Path.{_≡_, refl, sym, ap, ap₂, subst, _∙_}
+use mathlib.Core.Path.{_≡_, refl, sym, ap, ap₂, subst, subst₂, _∙_}
 use mathlib.Core.List.{List, [], _∷_, map}
 use lib.ListN.{length}
 use Rattle.numbers.specs.Lists.{each, written}
@@ -18,7 +18,7 @@ use Rattle.records.specs.Good.{recordsGood}
 use Rattle.records.specs.Step.{switchedTo, ticked, acted}
 use Rattle.records.proofs.GoodLaws.{at-plain, switch-shaped}
 use Rattle.records.proofs.WordLaws.{records-back, records-shaped}
-use Rattle.steps.specs.Steps.{Arrival, arrival, turnOf, idAt, eventOf, Outcome, outcomeOf}
+use Rattle.steps.specs.Steps.{Arrival, arrival, isSecond, turnOf, idAt, eventOf, Outcome, outcomeOf}
 use Rattle.firewall.specs.Firewall.{answered, After, AfterCall, switchOf, judgeOf}
 use Rattle.theorems.specs.Run.{Item, arrives, switches, go, Told, tell}
 use Rattle.theorems.specs.Statements.{isAnswer}
@@ -42,10 +42,10 @@ words-alike s u h k p q = record {
 }
 
 -- two frames of the same bytes after the same elapsed time
-module _ (t : Table) (v w : Lent) (n m : ℕ) (bytes : List ℕ) (l : Layers) (b : ButLast v w)
+module _ (t : Table) (v w : Lent) (n m socket : ℕ) (bytes : List ℕ) (l : Layers) (b : ButLast v w)
     (e : n - recordsOf v .last ≡ m - recordsOf w .last) where
   abbrev from : Lent → ℕ → Outcome
-  from u k = outcome t (recordsOf u) (arrival k bytes) l
+  from u k = outcome t (recordsOf u) (arrival k socket bytes) l
 
   -- the records aged by a time, at a last reading that nothing looks at
   abbrev aged-by : ℕ → ℕ → List RuleRecord → Records
@@ -53,33 +53,33 @@ module _ (t : Table) (v w : Lent) (n m : ℕ) (bytes : List ℕ) (l : Layers) (b
 
   answer-alike : (space : List ℕ) → answer (from v n) space ≡ answer (from w m) space
   unfolding outcomeOf ticked
-  answer-alike space = λ i. answer (reach t (b .state i) (seen bytes l) (aged-by (e i) (b .state i) (b .rules i))) space
+  answer-alike space = λ i. answer (reach t (b .state i) (seen (isSecond socket) bytes l) (aged-by (e i) (b .state i) (b .rules i))) space
 
   outcome-alike : Shaped v → Shaped w → ButLast (wordsOf (from v n .records)) (wordsOf (from w m .records))
   unfolding outcomeOf ticked acted
   outcome-alike h k =
       words-alike (from v n .records) (from w m .records)
-      (outcome-shaped t (recordsOf v) (arrival n bytes) l (records-shaped v h))
-      (outcome-shaped t (recordsOf w) (arrival m bytes) l (records-shaped w k))
+      (outcome-shaped t (recordsOf v) (arrival n socket bytes) l (records-shaped v h))
+      (outcome-shaped t (recordsOf w) (arrival m socket bytes) l (records-shaped w k))
       (b .state)
-      (λ i. reach t (b .state i) (seen bytes l) (aged-by (e i) (b .state i) (b .rules i)) .records .rules)
+      (λ i. reach t (b .state i) (seen (isSecond socket) bytes l) (aged-by (e i) (b .state i) (b .rules i)) .records .rules)
 
 judge-alike :
-    (t : Table) (v w : Lent) (n m : ℕ) (bytes space : List ℕ) → Shaped v → Shaped w → ButLast v w
+    (t : Table) (v w : Lent) (n m socket : ℕ) (bytes space : List ℕ) → Shaped v → Shaped w → ButLast v w
     → n - recordsOf v .last ≡ m - recordsOf w .last
-    → SameButLast (judgeOf t v (arrival n bytes) space) (judgeOf t w (arrival m bytes) space)
-judge-alike t v w n m bytes space h k b e =
-    judge-two t v w bytes space n m SameButLast (good-alike t v w b)
+    → SameButLast (judgeOf t v (arrival n socket bytes) space) (judgeOf t w (arrival m socket bytes) space)
+judge-alike t v w n m socket bytes space h k b e =
+    judge-two t v w socket bytes space n m SameButLast (good-alike t v w b)
     (λ r. record { said = refl; space = refl; words = b })
     (λ l f g q r. record {
-      said = ap (λ (x : Told). x .said) (answer-alike t v w n m bytes l b e space);
-      space = ap (λ (x : Told). x .space) (answer-alike t v w n m bytes l b e space);
-      words = outcome-alike t v w n m bytes l b e h k;
+      said = ap (λ (x : Told). x .said) (answer-alike t v w n m socket bytes l b e space);
+      space = ap (λ (x : Told). x .space) (answer-alike t v w n m socket bytes l b e space);
+      words = outcome-alike t v w n m socket bytes l b e h k;
     })
 
 pub clock-back : ClockBack
-clock-back t w n bytes space s m =
-    judge-alike t w w n (recordsOf w .last) bytes space s s (record { state = refl; rules = refl }) (omega arith)
+clock-back t w n socket bytes space s m =
+    judge-alike t w w n (recordsOf w .last) socket bytes space s s (record { state = refl; rules = refl }) (omega arith)
 
 -- ---- a run
 
@@ -102,9 +102,9 @@ frame-alike :
     → AlikeCall v w (arrives a space) (arrives c room)
     → SameButLast (judgeOf t v a space) (judgeOf t w c room)
 frame-alike t v w a c space room h k b p =
-    subst (λ z. SameButLast (judgeOf t v a space) (judgeOf t w c z)) (p .1)
-    (subst (λ z. SameButLast (judgeOf t v a space) (judgeOf t w (arrival (c .reading) z) space)) (p .0)
-    (judge-alike t v w (a .reading) (c .reading) (a .bytes) space h k b (p .2)))
+    subst (λ z. SameButLast (judgeOf t v a space) (judgeOf t w c z)) (p .2)
+    (subst₂ (λ n z. SameButLast (judgeOf t v a space) (judgeOf t w (arrival (c .reading) n z) space)) (p .0) (p .1)
+    (judge-alike t v w (a .reading) (c .reading) (a .socket) (a .bytes) space h k b (p .3)))
 
 go-alike : (t : Table) (v w : Lent) (x y : Item) → Shaped v → Shaped w → ButLast v w → AlikeCall v w x y
     → (tell t v x ≡ tell t w y) × ButLast (go t v x) (go t w y)
@@ -165,18 +165,18 @@ module _ (t : Table) (n : ℕ) where
 
   frame-last :
       (v w : Lent) (a : Arrival) (space : List ℕ) → Shifted n v w
-      → recordsOf (judgeOf t w (arrival (a .reading + n) (a .bytes)) space .words) .last
+      → recordsOf (judgeOf t w (arrival (a .reading + n) (a .socket) (a .bytes)) space .words) .last
       ≡ recordsOf (judgeOf t v a space .words) .last + n
   frame-last v w a space d =
-      judge-two t v w (a .bytes) space (a .reading) (a .reading + n)
+      judge-two t v w (a .socket) (a .bytes) space (a .reading) (a .reading + n)
       (λ (x y : After). recordsOf (y .words) .last ≡ recordsOf (x .words) .last + n) (good-alike t v w (d .same))
       (λ r. d .last)
       (λ l e g q r.
-      outcome-reading t w (arrival (a .reading + n) (a .bytes)) l (d .right)
+      outcome-reading t w (arrival (a .reading + n) (a .socket) (a .bytes)) l (d .right)
       ∙ sym (ap (λ z. z + n) (outcome-reading t v a l (d .left))))
 
   call-alike : (v w : Lent) (x : Item) → Shifted n v w → AlikeCall v w x (later n x)
-  call-alike v w (arrives a space) d = (refl, refl, let h = d .last in omega arith)
+  call-alike v w (arrives a space) d = (refl, refl, refl, let h = d .last in omega arith)
   call-alike v w (switches state) d = refl
 
   -- alike calls keep them so, where the last readings stay n apart
@@ -209,7 +209,7 @@ clock-reset t w a space items h m judged =
     n = recordsOf w .last - a .reading
 
     b : Arrival
-    b = arrival (a .reading + n) (a .bytes)
+    b = arrival (a .reading + n) (a .socket) (a .bytes)
 
     x : Item
     x = arrives a space
@@ -221,7 +221,7 @@ clock-reset t w a space items h m judged =
     same = record { state = refl; rules = refl }
 
     first : AlikeCall w w x y
-    first = (refl, refl, omega arith)
+    first = (refl, refl, refl, omega arith)
 
     last : recordsOf (judgeOf t w b space .words) .last ≡ recordsOf (judgeOf t w a space .words) .last + n
     last =
@@ -231,29 +231,29 @@ clock-reset t w a space items h m judged =
 -- ---- a decider that does not look at the clock
 
 plain-answer :
-    (t : Table) (s : Records) (bytes space : List ℕ) (l : Layers) → Plain t (deciderOf t (s .state) (seen bytes l)) → (n m : ℕ)
-    → answer (outcome t s (arrival n bytes) l) space ≡ answer (outcome t s (arrival m bytes) l) space
+    (t : Table) (s : Records) (socket : ℕ) (bytes space : List ℕ) (l : Layers) → Plain t (deciderOf t (s .state) (seen (isSecond socket) bytes l)) → (n m : ℕ)
+    → answer (outcome t s (arrival n socket bytes) l) space ≡ answer (outcome t s (arrival m socket bytes) l) space
 unfolding outcomeOf ticked
-plain-answer t s bytes space l p n m =
+plain-answer t s socket bytes space l p n m =
     ap by (at-plain t (s .state) g d (recordAt (ticked t n s) d) (recordAt (ticked t m s) d) p)
   where
     g : Turn
-    g = turnOf (seen bytes l)
+    g = turnOf (seen (isSecond socket) bytes l)
 
     d : ℕ
-    d = deciderOf t (s .state) (seen bytes l)
+    d = deciderOf t (s .state) (seen (isSecond socket) bytes l)
 
     by : ℕ → Told
     by v =
-        let event = eventOf t (s .state) (seen bytes l) d v in
+        let event = eventOf t (s .state) (seen (isSecond socket) bytes l) d v in
         record { said = answered v (idAt t d) (length event); space = written event space }
 
 pub clock-free : ClockFree
-clock-free t w bytes space l q p n m =
-    judge-two t w w bytes space n m (λ (x y : After). (x .said ≡ y .said) × (x .space ≡ y .space)) refl
+clock-free t w socket bytes space l q p n m =
+    judge-two t w w socket bytes space n m (λ (x y : After). (x .said ≡ y .said) × (x .space ≡ y .space)) refl
     (λ k. (refl, refl))
     (λ j e h r room.
     let same : j ≡ l = cc in
-    let plain = subst (λ z. Plain t (deciderOf t (recordsOf w .state) (seen bytes z))) (sym same) p in
-    let told = plain-answer t (recordsOf w) bytes space j plain n m in
+    let plain = subst (λ z. Plain t (deciderOf t (recordsOf w .state) (seen (isSecond socket) bytes z))) (sym same) p in
+    let told = plain-answer t (recordsOf w) socket bytes space j plain n m in
     (ap (λ (x : Told). x .said) told, ap (λ (x : Told). x .space) told))

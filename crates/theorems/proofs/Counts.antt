@@ -6,7 +6,6 @@ use mathlib.Core.Bool.{Bool, true, false, not}
 use mathlib.Core.List.{List, [], _∷_}
 use lib.ListN.{length, getD, set}
 use Rattle.numbers.specs.Lists.{each, ends, said}
-use Rattle.layers.specs.Seen.{seen}
 use Rattle.layers.specs.declared.Layers.{Layers}
 use Rattle.table.specs.declared.Table.{Table}
 use Rattle.table.specs.declared.Rule.{Rule}
@@ -23,7 +22,7 @@ use Rattle.records.specs.Step.{freshOf, switchedTo, ticked, reaction, acted}
 use Rattle.verdicts.proofs.RuleLaws.{CountedBy, counted-sum, aged-count}
 use Rattle.records.proofs.GoodLaws.{ticked-at, ticked-length, acted-own, acted-by, at-count, fresh-shaped, switch-shaped}
 use Rattle.records.proofs.WordLaws.{records-back, records-shaped}
-use Rattle.steps.specs.Steps.{Arrival, turnOf, outcomeOf}
+use Rattle.steps.specs.Steps.{Arrival, seenOf, turnOf, outcomeOf}
 use Rattle.firewall.specs.Firewall.{done, After, AfterCall, startOf, switchOf, judgeOf}
 use Rattle.theorems.specs.Run.{Item, arrives, switches, go, tell, Good}
 use Rattle.theorems.specs.Statements.{sumOf, countsOf, total, NoneStopped, isAnswer, judgedIn, CountsAdd}
@@ -128,10 +127,10 @@ outcome-step t w a l e g n = record {
 }
   where
     x : Turn
-    x = turnOf (seen (a .bytes) l)
+    x = turnOf (seenOf a l)
 
     d : ℕ
-    d = deciderOf t (recordsOf w .state) (seen (a .bytes) l)
+    d = deciderOf t (recordsOf w .state) (seenOf a l)
 
     u : Records
     u = ticked t (a .reading) (recordsOf w)
@@ -145,7 +144,7 @@ outcome-step t w a l e g n = record {
     here : d < length (u .rules)
     here =
         rw (ticked-length t (a .reading) (recordsOf w), records-shaped w (g .shaped) .rules)
-        (decider-most t (recordsOf w .state) (seen (a .bytes) l) e)
+        (decider-most t (recordsOf w .state) (seenOf a l) e)
 
 judge-step :
     (t : Table) (w : Lent) (a : Arrival) (space : List ℕ) → Good t w → NoneStopped (recordsOf (judgeOf t w a space .words))

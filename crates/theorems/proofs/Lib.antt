@@ -2,6 +2,9 @@ pub mod Machine
 pub mod Calls
 pub mod Kept
 pub mod Swap
+pub mod Strike
+pub mod Sight
+pub mod Sockets
 pub mod Counts
 pub mod Clock
 pub mod Passes

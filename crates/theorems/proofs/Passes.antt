@@ -9,7 +9,7 @@ use lib.Dec.{ltb}
 use borrow.Author.Tests.{lt-ltb, ltb-true}
 use Rattle.numbers.specs.Lists.{first}
 use Rattle.numbers.proofs.Lists.{cond-both, and-both, and-true-true, first-holds, first-is}
-use Rattle.layers.specs.Seen.{Seen, seen}
+use Rattle.layers.specs.Seen.{Seen}
 use Rattle.table.specs.declared.Action.{Action}
 use Rattle.table.specs.declared.Rule.{Rule}
 use Rattle.table.specs.declared.Table.{Table}
@@ -34,7 +34,7 @@ use Rattle.conversations.specs.declared.Turn.{Turn}
 use Rattle.places.specs.Places.{Place, free, phaseOf}
 use Rattle.verdicts.specs.Record.{RuleRecord}
 use Rattle.records.specs.Records.{Records, recordsOf, recordAt, default}
-use Rattle.conversations.specs.Tracking.{freeAt, heldAt, Tracked, moved, begun, stepOf, trackedIn, tracked}
+use Rattle.conversations.specs.Tracking.{seatOf, heldAt, Tracked, moved, begun, stepOf, trackedIn, tracked}
 use Rattle.flags.specs.Flags.{nextOf}
 use Rattle.verdicts.specs.Rule.{
   allowed,
@@ -42,6 +42,7 @@ use Rattle.verdicts.specs.Rule.{
   blockedByDefault,
   blockedByRule,
   overRate,
+  levelOf,
   raised,
   over,
   decided,
@@ -53,7 +54,8 @@ use Rattle.verdicts.specs.Rule.{
 use Rattle.records.specs.Step.{ticked, reactedAt}
 use Rattle.numbers.proofs.Tests.{by-test, by-less}
 use Rattle.records.proofs.GoodLaws.{at-rule, at-default}
-use Rattle.steps.specs.Steps.{turnOf, outcomeOf}
+use Rattle.steps.proofs.Laws.{turn-second}
+use Rattle.steps.specs.Steps.{seenOf, turnOf, outcomeOf}
 use Rattle.firewall.specs.Firewall.{answered, After}
 use Rattle.theorems.specs.Passes.{
   Matches,
@@ -151,8 +153,8 @@ moved-tells q ps i next.No = omega arith
 
 begun-tells :
     (m : Room) (q : Quad) (ps : List Place) (k : FlagKind)
-    → Tells (opens k && ltb (freeAt ps (m .places)) (m .places)) (says (begun m q ps k))
-begun-tells m q ps kind.Open = free-tells (ltb (freeAt ps (m .places)) (m .places)) _ _ refl (omega arith)
+    → Tells (opens k && ltb (seatOf m (q .second) ps) (m .places)) (says (begun m q ps k))
+begun-tells m q ps kind.Open = free-tells (ltb (seatOf m (q .second) ps) (m .places)) _ _ refl (omega arith)
   where
     free-tells : (b : Bool) (x y : Tracked) → says x ≡ allowed → 2 ≤ says y → Tells b (says (cond b x y))
     free-tells true x y h k = h
@@ -177,12 +179,12 @@ tracked-tells (tracking.Set m) g ps = flags-tell m (g .quad) ps (g .flags)
 
 -- what a rule asks, in one test
 abbrev ruleHolds : Rule → Turn → RuleRecord → Bool
-ruleHolds r g x = isAllow (r .action) && (rateHolds r x && trackingHolds (trackingOf r) g (x .places))
+ruleHolds r g x = isAllow (r .action) && (rateHolds r (g .quad .second) x && trackingHolds (trackingOf r) g (x .places))
 
 reacted-tells : (r : Rule) (g : Turn) (x : RuleRecord) → Tells (ruleHolds r g x) (reacted r g x .verdict)
 unfolding reacted decided
 reacted-tells r g x =
-    by (isAllow (r .action)) (over (bucketOf r) (raised (bucketOf r) (x .level))) _ (tracked (trackingOf r) g (x .places)) (tracked-tells (trackingOf r) g (x .places))
+    by (isAllow (r .action)) (over (bucketOf r) (raised (bucketOf r) (levelOf (g .quad .second) x))) _ (tracked (trackingOf r) g (x .places)) (tracked-tells (trackingOf r) g (x .places))
   where
     by : (a o p : Bool) (y : Tracked) → Tells p (says y)
         → Tells (a && (not o && p))
@@ -243,7 +245,7 @@ module _ (t : Table) (s : Records) (reading : ℕ) (x : Seen) (few : t .rulecoun
   rule-by : ByRule t s reading x → verdict decider ≡ allowed
   rule-by p =
       ap verdict (first-decider t (s .state) x (p .place) (p .first))
-      ∙ subst (λ b. Tells b (verdict (p .place))) (and-true-true (p .allows) (and-true-true (p .rate) (p .tracks)))
+      ∙ subst (λ b. Tells b (verdict (p .place))) (and-true-true (p .allows) (and-true-true (ap (λ k. rateHolds (ruleAt t (p .place)) k (at (p .place))) (turn-second x) ∙ p .rate) (p .tracks)))
       (rule-tells (p .place) (let h = p .first .matches .rule in omega arith))
 
   by-rule : verdict decider ≡ allowed → ByRule t s reading x
@@ -252,7 +254,13 @@ module _ (t : Table) (s : Records) (reading : ℕ) (x : Seen) (few : t .rulecoun
       (λ h.
       let b = and-both _ _ (tells-passed (test decider) (verdict decider) (rule-tells decider h) e) in
       let c = and-both _ _ (b .1) in
-      record { place = decider; first = decider-first t (s .state) x h; allows = b .0; rate = c .0; tracks = c .1 })
+      record {
+        place = decider;
+        first = decider-first t (s .state) x h;
+        allows = b .0;
+        rate = ap (λ k. rateHolds (ruleAt t decider) k (at decider)) (sym (turn-second x)) ∙ c .0;
+        tracks = c .1;
+      })
       (λ h. absurd (default-never otherwise (sym (default-verdict decider h) ∙ e)))
 
   default-by : ByDefault t s x → verdict decider ≡ allowedByDefault
@@ -278,11 +286,11 @@ outcome-exactly t s reading x f =
 
 pub passes-exactly : PassesExactly
 passes-exactly t w a space l v id n shows =
-    judge-two t w w (a .bytes) space (a .reading) (a .reading)
-    (λ (x y : After). x .said ≡ answered v id n → Exactly t (recordsOf w) (a .reading) (seen (a .bytes) l) v) refl
+    judge-two t w w (a .socket) (a .bytes) space (a .reading) (a .reading)
+    (λ (x y : After). x .said ≡ answered v id n → Exactly t (recordsOf w) (a .reading) (seenOf a l) v) refl
     (λ k e. absurd (let z : _≡_ {A = ℕ} 0 1 = cc in omega arith))
     (λ j f h r room e.
     let same : l ≡ j = cc in
     let given : outcome t (recordsOf w) a j .verdict ≡ v = cc in
-    subst (Exactly t (recordsOf w) (a .reading) (seen (a .bytes) l)) (ap (λ z. outcome t (recordsOf w) a z .verdict) same ∙ given)
-    (outcome-exactly t (recordsOf w) (a .reading) (seen (a .bytes) l) f))
+    subst (Exactly t (recordsOf w) (a .reading) (seenOf a l)) (ap (λ z. outcome t (recordsOf w) a z .verdict) same ∙ given)
+    (outcome-exactly t (recordsOf w) (a .reading) (seenOf a l) f))

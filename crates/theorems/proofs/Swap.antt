@@ -6,7 +6,6 @@ use mathlib.Core.Bool.{true}
 use mathlib.Core.List.{List}
 use lib.ListN.{length}
 use Rattle.numbers.proofs.Lists.{set-two}
-use Rattle.layers.specs.Seen.{seen}
 use Rattle.layers.specs.declared.Layers.{Layers}
 use Rattle.table.specs.declared.Table.{Table}
 use Rattle.faults.specs.declared.Fault.the-variants as fault
@@ -19,7 +18,7 @@ use Rattle.records.specs.Good.{recordsGood}
 use Rattle.records.specs.Step.{ticked, reactedAt, reaction, acted}
 use Rattle.records.proofs.GoodLaws.{acted-other, ticked-still}
 use Rattle.numbers.specs.Lists.{written}
-use Rattle.steps.specs.Steps.{Arrival, turnOf, eventOf, idAt, Outcome}
+use Rattle.steps.specs.Steps.{Arrival, seenOf, turnOf, eventOf, idAt, Outcome}
 use Rattle.firewall.specs.Firewall.{answered, After, judgedAs, judgeOf}
 use Rattle.theorems.specs.Run.{Item, arrives, switches, go, Told, tell, Good, Judges, ApartFrames, Apart}
 use Rattle.theorems.specs.Statements.{Demand3}
@@ -65,16 +64,16 @@ reaction-alone t g h d k ne s = ap (reactedAt t (s .state) g d) (acted-other t h
 second-reach :
     (t : Table) (s : Records) (a b : Arrival) (l m : Layers) → faultOf t ≡ fault.Good → recordsGood t s ≡ true
     → a .reading ≡ b .reading
-    → outcome t (outcome t s a l .records) b m ≡ reach t (s .state) (seen (b .bytes) m) (outcome t s a l .records)
+    → outcome t (outcome t s a l .records) b m ≡ reach t (s .state) (seenOf b m) (outcome t s a l .records)
 second-reach t s a b l m e h q =
     let z : Records = outcome t s a l .records in
     outcome-reach t z b m
-    ∙ ap₂ (λ (n : ℕ) (u : Records). reach t n (seen (b .bytes) m) u) (outcome-state t s a l)
+    ∙ ap₂ (λ (n : ℕ) (u : Records). reach t n (seenOf b m) u) (outcome-state t s a l)
     (ticked-still t (b .reading) z e (outcome-good t s a l e h) (outcome-last t s a l ∙ q))
 
 module _ (t : Table) (s : Records) (a b : Arrival) (l m : Layers)
     (e : faultOf t ≡ fault.Good) (h : recordsGood t s ≡ true) (q : a .reading ≡ b .reading)
-    (ne : deciderOf t (s .state) (seen (a .bytes) l) ≡ deciderOf t (s .state) (seen (b .bytes) m) → ⊥) where
+    (ne : deciderOf t (s .state) (seenOf a l) ≡ deciderOf t (s .state) (seenOf b m) → ⊥) where
   outcome-comm : outcome t (outcome t s b m .records) a l .records ≡ outcome t (outcome t s a l .records) b m .records
   outcome-comm =
       ap (λ o. o .records) (second-reach t s b a m l e h (sym q))
@@ -85,22 +84,22 @@ module _ (t : Table) (s : Records) (a b : Arrival) (l m : Layers)
       ∙ sym (ap (λ o. o .records) (second-reach t s a b l m e h q))
     where
       ga : Turn
-      ga = turnOf (seen (a .bytes) l)
+      ga = turnOf (seenOf a l)
 
       gb : Turn
-      gb = turnOf (seen (b .bytes) m)
+      gb = turnOf (seenOf b m)
 
       da : ℕ
-      da = deciderOf t (s .state) (seen (a .bytes) l)
+      da = deciderOf t (s .state) (seenOf a l)
 
       db : ℕ
-      db = deciderOf t (s .state) (seen (b .bytes) m)
+      db = deciderOf t (s .state) (seenOf b m)
 
 -- a frame's answer does not see what another decider did at the same reading
 outcome-alone :
     (t : Table) (s : Records) (a b : Arrival) (l m : Layers) (space : List ℕ) → faultOf t ≡ fault.Good → recordsGood t s ≡ true
     → a .reading ≡ b .reading
-    → (deciderOf t (s .state) (seen (b .bytes) m) ≡ deciderOf t (s .state) (seen (a .bytes) l) → ⊥)
+    → (deciderOf t (s .state) (seenOf b m) ≡ deciderOf t (s .state) (seenOf a l) → ⊥)
     → answer (outcome t (outcome t s a l .records) b m) space ≡ answer (outcome t s b m) space
 outcome-alone t s a b l m space e h q ne =
     ap told (second-reach t s a b l m e h q)
@@ -113,20 +112,20 @@ outcome-alone t s a b l m space e h q ne =
     told o = answer o space
 
     ga : Turn
-    ga = turnOf (seen (a .bytes) l)
+    ga = turnOf (seenOf a l)
 
     gb : Turn
-    gb = turnOf (seen (b .bytes) m)
+    gb = turnOf (seenOf b m)
 
     da : ℕ
-    da = deciderOf t (s .state) (seen (a .bytes) l)
+    da = deciderOf t (s .state) (seenOf a l)
 
     db : ℕ
-    db = deciderOf t (s .state) (seen (b .bytes) m)
+    db = deciderOf t (s .state) (seenOf b m)
 
     by : ℕ → Told
     by v =
-        let event = eventOf t (s .state) (seen (b .bytes) m) db v in
+        let event = eventOf t (s .state) (seenOf b m) db v in
         record { said = answered v (idAt t db) (length event); space = written event space }
 
 -- ---- two calls
@@ -144,7 +143,7 @@ judge-after t w a b space room l m e g i j =
 
 module _ (t : Table) (w : Lent) (a b : Arrival) (space room : List ℕ) (l m : Layers) (i : Judges a space l) (j : Judges b room m)
     (q : a .reading ≡ b .reading)
-    (ne : deciderOf t (recordsOf w .state) (seen (a .bytes) l) ≡ deciderOf t (recordsOf w .state) (seen (b .bytes) m) → ⊥) where
+    (ne : deciderOf t (recordsOf w .state) (seenOf a l) ≡ deciderOf t (recordsOf w .state) (seenOf b m) → ⊥) where
   good-commute :
       faultOf t ≡ fault.Good → Good t w
       → go t (go t w (arrives b room)) (arrives a space) ≡ go t (go t w (arrives a space)) (arrives b room)

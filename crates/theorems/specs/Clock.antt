@@ -14,7 +14,7 @@ use Rattle.table.specs.declared.Tracking.the-variants as tracking
 use Rattle.table.specs.Table.{ruleAt, bucketOf, trackingOf}
 use Rattle.deciding.specs.Decider.{deciderOf}
 use Rattle.records.specs.Records.{Lent, recordsOf, default, Shaped}
-use Rattle.steps.specs.Steps.{Arrival, arrival}
+use Rattle.steps.specs.Steps.{Arrival, arrival, isSecond}
 use Rattle.firewall.specs.Firewall.{After, judgeOf}
 use Rattle.theorems.specs.Run.{Item, arrives, switches, go, tell}
 use Rattle.theorems.specs.Statements.{isAnswer}
@@ -35,8 +35,8 @@ pub record SameButLast (x y : After) : Type 0 where
 
 abbrev pub ClockBack : Type 0
 ClockBack =
-    (t : Table) (w : Lent) (reading : ℕ) (bytes space : List ℕ) → Shaped w → reading ≤ recordsOf w .last
-    → SameButLast (judgeOf t w (arrival reading bytes) space) (judgeOf t w (arrival (recordsOf w .last) bytes) space)
+    (t : Table) (w : Lent) (reading socket : ℕ) (bytes space : List ℕ) → Shaped w → reading ≤ recordsOf w .last
+    → SameButLast (judgeOf t w (arrival reading socket bytes) space) (judgeOf t w (arrival (recordsOf w .last) socket bytes) space)
 
 -- the default, or a rule without bucket and tracking
 abbrev pub Plain : Table → ℕ → Type 0
@@ -45,11 +45,11 @@ Plain t d = d < default → (bucketOf (ruleAt t d) ≡ bucket.Unset) × (trackin
 -- a frame that such a decider decides is answered alike at every reading
 abbrev pub ClockFree : Type 0
 ClockFree =
-    (t : Table) (w : Lent) (bytes space : List ℕ) (l : Layers) → shownOf bytes ≡ shown.Shows l
-    → Plain t (deciderOf t (recordsOf w .state) (seen bytes l))
+    (t : Table) (w : Lent) (socket : ℕ) (bytes space : List ℕ) (l : Layers) → shownOf bytes ≡ shown.Shows l
+    → Plain t (deciderOf t (recordsOf w .state) (seen (isSecond socket) bytes l))
     → (n m : ℕ)
-    → (judgeOf t w (arrival n bytes) space .said ≡ judgeOf t w (arrival m bytes) space .said)
-    × (judgeOf t w (arrival n bytes) space .space ≡ judgeOf t w (arrival m bytes) space .space)
+    → (judgeOf t w (arrival n socket bytes) space .said ≡ judgeOf t w (arrival m socket bytes) space .said)
+    × (judgeOf t w (arrival n socket bytes) space .space ≡ judgeOf t w (arrival m socket bytes) space .space)
 
 -- ---- a run
 
@@ -57,9 +57,10 @@ ClockFree =
 abbrev pub elapsed : Lent → Arrival → ℕ
 elapsed w a = a .reading - recordsOf w .last
 
--- one call at two clocks: the same frame and event space after the same elapsed time; or the same switch
+-- one call at two clocks: the same frame, socket and event space after the same elapsed time; or the same switch
 abbrev pub AlikeCall : Lent → Lent → Item → Item → Type 0
-AlikeCall v w (arrives a space) (arrives b room) = (a .bytes ≡ b .bytes) × (space ≡ room) × (elapsed v a ≡ elapsed w b)
+AlikeCall v w (arrives a space) (arrives b room) =
+    (a .socket ≡ b .socket) × (a .bytes ≡ b .bytes) × (space ≡ room) × (elapsed v a ≡ elapsed w b)
 AlikeCall v w (arrives a space) (switches n) = ⊥
 AlikeCall v w (switches m) (arrives b room) = ⊥
 AlikeCall v w (switches m) (switches n) = m ≡ n
@@ -82,7 +83,7 @@ ElapsedOnly =
 
 -- an item at a clock that shows n more; a reading is a plain number here, and may pass the highest that a call can take
 abbrev pub later : ℕ → Item → Item
-later n (arrives a space) = arrives (arrival (a .reading + n) (a .bytes)) space
+later n (arrives a space) = arrives (arrival (a .reading + n) (a .socket) (a .bytes)) space
 later n (switches m) = switches m
 
 -- A clock that was reset: a judged frame whose reading went back, and whatever run follows it,

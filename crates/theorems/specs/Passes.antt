@@ -30,9 +30,9 @@ use Rattle.places.specs.declared.Quad.{Quad}
 use Rattle.places.specs.Places.{Place, free, phaseOf}
 use Rattle.verdicts.specs.Record.{RuleRecord}
 use Rattle.records.specs.Records.{Records, Lent, recordsOf, recordAt}
-use Rattle.conversations.specs.Tracking.{freeAt, heldAt}
+use Rattle.conversations.specs.Tracking.{seatOf, heldAt}
 use Rattle.flags.specs.Flags.{nextOf}
-use Rattle.verdicts.specs.Rule.{allowed, allowedByDefault, raised, over}
+use Rattle.verdicts.specs.Rule.{allowed, allowedByDefault, levelOf, raised, over}
 use Rattle.records.specs.Step.{ticked}
 use Rattle.steps.specs.Steps.{Arrival, seenOf, turnOf}
 use Rattle.firewall.specs.Firewall.{answered, judgeOf}
@@ -56,9 +56,9 @@ NoMatch t state x = (j : ℕ) → Matches t state x j → ⊥
 
 -- ---- "that rule's rate limit and TCP tracking hold"
 
--- the level, raised by this frame, is not "above 1,000 x size"
-abbrev pub rateHolds : Rule → RuleRecord → Bool
-rateHolds r x = not (over (bucketOf r) (raised (bucketOf r) (x .level)))
+-- the level of the frame's socket, raised by this frame, is not "above 1,000 x size"
+abbrev pub rateHolds : Rule → Bool → RuleRecord → Bool
+rateHolds r second x = not (over (bucketOf r) (raised (bucketOf r) (levelOf second x)))
 
 -- the table of the paper has a next state for a held conversation, or removes it; its other fields are 42
 abbrev pub goesOn : Next → Bool
@@ -66,20 +66,20 @@ goesOn (next.To f) = true
 goesOn next.Removed = true
 goesOn next.No = false
 
--- its row "none": "Opening, or verdict 5 if no place is free", and 41 for the other kinds
+-- its row "none": "Opening, or verdict 5 if no place is free" (or the socket is at its number), and 41 for the other kinds
 abbrev pub opens : FlagKind → Bool
 opens kind.Open = true
 opens kind.Carry = false
 opens kind.End = false
 opens kind.Reset = false
 
--- the frame's conversation is held and goes on; or it is not held, the frame opens it and a place is free
+-- the frame's conversation is held and goes on; or it is not held, the frame opens it and there is a place for it
 abbrev pub stepHolds : Room → Quad → List Place → FlagKind → Bool
 stepHolds m q ps k =
     let i = heldAt q ps in
     cond (ltb i (length ps))
     (goesOn (nextOf (phaseOf (getD ps i free .state)) k))
-    (opens k && ltb (freeAt ps (m .places)) (m .places))
+    (opens k && ltb (seatOf m (q .second) ps) (m .places))
 
 -- wrong flags, which are 40, are no step
 abbrev pub flagsHold : Room → Quad → List Place → Flags → Bool
@@ -98,7 +98,7 @@ pub record ByRule (t : Table) (s : Records) (reading : ℕ) (x : Seen) : Type 0 
   pub place : ℕ
   pub first : FirstMatch t (s .state) x place
   pub allows : isAllow (ruleAt t place .action) ≡ true
-  pub rate : rateHolds (ruleAt t place) (recordAt (ticked t reading s) place) ≡ true
+  pub rate : rateHolds (ruleAt t place) (x .second) (recordAt (ticked t reading s) place) ≡ true
   pub tracks :
       trackingHolds (trackingOf (ruleAt t place)) (turnOf x) (recordAt (ticked t reading s) place .places) ≡ true
 

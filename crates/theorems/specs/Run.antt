@@ -57,8 +57,9 @@ module _ {S X : Type 0} (May : S → X → X → Type 0) (go : S → X → S) wh
   MayAll s [] l = Unit {0}
   MayAll s (n ∷ ns) l = MayAt s n l × MayAll s ns (swapAt n l)
 
--- the frame shows the layers l, and its call has space for an event: it is judged
+-- the frame comes on one of the two sockets and shows the layers l, and its call has space for an event: a good table and record judge it
 pub record Judges (a : Arrival) (space : List ℕ) (l : Layers) : Type 0 where
+  pub socket : a .socket ≤ 1
   pub shows : shownOf (a .bytes) ≡ shown.Shows l
   pub room : eventRoom ≤ length space
 

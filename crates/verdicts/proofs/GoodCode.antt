@@ -2,7 +2,7 @@
 -- Assumes nothing.
 use Prim.Native.Nat.{ℕ}
 use mathlib.Core.Path.{_≡_, sym, ap, _∙_}
-use mathlib.Core.Bool.{Bool, true, false, _&&_, _||_}
+use mathlib.Core.Bool.{Bool, true, false, _&&_}
 use lib.Dec.{leb, eqb}
 use native.Mathlib.Omega.{arith}
 use borrow.Author.Tests.{le-leb, eqb-true}
@@ -13,10 +13,10 @@ use Rattle.table.specs.declared.Bucket.{Bucket}
 use Rattle.table.specs.declared.Bucket.the-variants as bucket
 use Rattle.table.specs.declared.Tracking.{Tracking}
 use Rattle.table.specs.Table.{noRule, bucketOf, trackingOf}
-use Rattle.places.specs.Good.{placesIn, limitIn, placesTests}
-use Rattle.numbers.proofs.Tests.{both-ways, and-assoc}
+use Rattle.places.specs.Good.{noRoom, roomIn, placesTests}
+use Rattle.numbers.proofs.Tests.{both-ways}
 use Rattle.verdicts.specs.Record.{RuleRecord}
-use Rattle.verdicts.specs.Good.{hasBucket, levelGood, recordTests, recordGood}
+use Rattle.verdicts.specs.Good.{levelGood, levelsGood, recordTests, recordGood}
 
 -- ---- the level
 
@@ -28,32 +28,23 @@ level-unset l =
 
 -- ---- a rule
 
-pub good-is : (r : Rule) (x : RuleRecord)
-    → recordGood r x
-    ≡ (levelGood (bucketOf r) (x .level) && every (placesTests (placesIn (trackingOf r)) (limitIn (trackingOf r)) (x .places)))
-unfolding recordGood recordTests
-good-is r x = sym (and-assoc (leb (x .level) 4294967000) (hasBucket (bucketOf r) || eqb (x .level) 0) _)
-
-module _ (r : Rule) (x : RuleRecord) (b : Bucket) (v : Bool) (has : b ≡ bucketOf r) (told : v ≡ levelGood b (x .level)) where
-  level-is : v ≡ levelGood (bucketOf r) (x .level)
-  level-is = told ∙ ap (λ (b : Bucket). levelGood b (x .level)) has
+module _ (r : Rule) (x : RuleRecord) (b : Bucket) (v : Bool) (has : b ≡ bucketOf r) (told : v ≡ levelsGood b x) where
+  levels-are : v ≡ levelsGood (bucketOf r) x
+  levels-are = told ∙ ap (λ (b : Bucket). levelsGood b x) has
 
   pub rule-no : v ≡ false → false ≡ recordGood r x
-  rule-no f =
-      sym
-      (good-is r x
-      ∙ ap (λ (a : Bool). a && every (placesTests (placesIn (trackingOf r)) (limitIn (trackingOf r)) (x .places))) (sym level-is ∙ f))
+  unfolding recordGood recordTests
+  rule-no f = sym (ap (λ (a : Bool). a && every (placesTests (roomIn (trackingOf r)) (x .places))) (sym levels-are ∙ f))
 
-  pub rule-yes : (k : Tracking) (a : Bool) → v ≡ true → k ≡ trackingOf r → a ≡ every (placesTests (placesIn k) (limitIn k) (x .places)) → a ≡ recordGood r x
+  pub rule-yes : (k : Tracking) (a : Bool) → v ≡ true → k ≡ trackingOf r → a ≡ every (placesTests (roomIn k) (x .places)) → a ≡ recordGood r x
+  unfolding recordGood recordTests
   rule-yes k a f e h =
       h
-      ∙ ap (λ (k : Tracking). every (placesTests (placesIn k) (limitIn k) (x .places))) e
-      ∙ sym
-      (good-is r x
-      ∙ ap (λ (a : Bool). a && every (placesTests (placesIn (trackingOf r)) (limitIn (trackingOf r)) (x .places))) (sym level-is ∙ f))
+      ∙ ap (λ (k : Tracking). every (placesTests (roomIn k) (x .places))) e
+      ∙ sym (ap (λ (a : Bool). a && every (placesTests (roomIn (trackingOf r)) (x .places))) (sym levels-are ∙ f))
 
 -- no rule stands there
-pub none-is : (x : RuleRecord) (a b : Bool) → a ≡ levelGood bucket.Unset (x .level)
-    → b ≡ every (placesTests 0 0 (x .places)) → (a && b) ≡ recordGood noRule x
-unfolding bucketOf trackingOf
-none-is x a b e f = rw (e, f) (sym (good-is noRule x))
+pub none-is : (x : RuleRecord) (a b : Bool) → a ≡ levelsGood bucket.Unset x
+    → b ≡ every (placesTests noRoom (x .places)) → (a && b) ≡ recordGood noRule x
+unfolding recordGood recordTests bucketOf trackingOf
+none-is x a b e f = rw (e, f)

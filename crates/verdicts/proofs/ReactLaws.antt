@@ -1,10 +1,10 @@
 -- Laws of one decider in the words of the code's branches.
 -- Assumes nothing.
 use Prim.Native.Nat.{ℕ}
-use mathlib.Core.Path.{_≡_, ap, _∙_}
-use mathlib.Core.Bool.{true, false, not}
-use mathlib.Core.List.{List, [], _∷_}
-use lib.ListN.{getD}
+use mathlib.Core.Path.{_≡_, refl, ap, _∙_}
+use mathlib.Core.Bool.{Bool, true, false}
+use mathlib.Core.List.{List, []}
+use lib.ListN.{length, getD, set}
 use Rattle.table.specs.declared.Action.{Action}
 use Rattle.table.specs.declared.Rule.{Rule}
 use Rattle.table.specs.Table.{isAllow, bucketOf, trackingOf}
@@ -12,11 +12,15 @@ use Rattle.places.specs.Places.{Place, placesOf}
 use Rattle.conversations.specs.Tracking.{Tracked, tracked}
 use Rattle.conversations.specs.declared.Turn.{Turn}
 use Rattle.conversations.specs.declared.Progress.{Progress}
-use Rattle.verdicts.specs.Record.{ruleOf}
+use Rattle.verdicts.proofs.AgeLaws.{level-set}
+use Rattle.verdicts.specs.Record.{countSize, levelWord, RuleRecord, ruleOf}
 use Rattle.verdicts.specs.Rule.{
   verdictOf,
+  levelOf,
+  withLevel,
   Decided,
   decidedAs,
+  Reacted,
   reactedAs,
   blockedByRule,
   overRate,
@@ -24,9 +28,8 @@ use Rattle.verdicts.specs.Rule.{
   asTracked,
   decided,
   raised,
-  counted,
-  passes,
   settled,
+  settledRow,
   reacted,
   defaultVerdict,
   defaulted,
@@ -59,20 +62,28 @@ module _ (r : Rule) (g : Turn) (l : ℕ) (ps : List Place) (x : Decided) where
 
 -- ---- steps 3 to 5 of a rule, and of the default
 
-module _ (c c' : List ℕ) (ps ps' : List (List ℕ)) (l v : ℕ) (kept : c' ≡ l ∷ counted (passes v) (getD c 1 0) ∷ counted (not (passes v)) (getD c 2 0) ∷ []) where
-  pub react-is : (r : Rule) (g : Turn) → l ≡ raised (bucketOf r) (getD c 0 0) → decidedAs v ps' ≡ decided r g l (placesOf ps)
-      → reactedAs v c' ps' ≡ reacted r g (ruleOf c ps)
-  unfolding reacted
-  react-is r g e d =
-      let D : ℕ → Decided = λ l. decided r g l (placesOf ps) in
-      let L : ℕ = raised (bucketOf r) (getD c 0 0) in
-      ap (λ (k : List ℕ). reactedAs v k ps') kept
-      ∙ ap (λ (t : Decided). settled (ruleOf c ps) (t .verdict) l (t .places)) (d ∙ ap D e)
-      ∙ ap (λ (l : ℕ). settled (ruleOf c ps) (D L .verdict) l (D L .places)) e
+-- the word of a socket's level, and the level
+level-word : (c : List ℕ) (ps : List (List ℕ)) (second : Bool) → getD c (levelWord second) 0 ≡ levelOf second (ruleOf c ps)
+level-word c ps false = refl
+level-word c ps true = refl
 
-pub default-is : (c c' : List ℕ) (l v : ℕ) (a : Action) → c' ≡ l ∷ counted (passes v) (getD c 1 0) ∷ counted (not (passes v)) (getD c 2 0) ∷ []
-    → l ≡ getD c 0 0 → v ≡ defaultVerdict a → reactedAs v c' [] ≡ defaulted a (ruleOf c [])
-default-is c c' l v a kept e d =
-    ap (λ (k : List ℕ). reactedAs v k []) kept
-    ∙ ap (λ (l : ℕ). settled (ruleOf c []) v l []) e
-    ∙ ap (λ (v : ℕ). settled (ruleOf c []) v (getD c 0 0) []) d
+pub react-is :
+    (r : Rule) (g : Turn) (c d e : List ℕ) (ps ps' : List (List ℕ)) (l v : ℕ) → length c ≡ countSize
+    → l ≡ raised (bucketOf r) (getD c (levelWord (g .quad .second)) 0) → d ≡ set c (levelWord (g .quad .second)) l
+    → decidedAs v ps' ≡ decided r g l (placesOf ps) → e ≡ settledRow v d
+    → reactedAs v e ps' ≡ reacted r g (ruleOf c ps)
+unfolding reacted
+react-is r g c d e ps ps' l v n up put so kept =
+    ap (λ (k : List ℕ). reactedAs v k ps') (kept ∙ ap (settledRow v) put)
+    ∙ ap (λ (y : RuleRecord). settled y v (placesOf ps')) (level-set c second l ps n)
+    ∙ ap (λ (t : Decided). settled (withLevel (ruleOf c ps) second l) (t .verdict) (t .places)) so
+    ∙ ap by (up ∙ ap (raised (bucketOf r)) (level-word c ps second))
+  where
+    second : Bool
+    second = g .quad .second
+
+    by : ℕ → Reacted
+    by l = let t = decided r g l (placesOf ps) in settled (withLevel (ruleOf c ps) (g .quad .second) l) (t .verdict) (t .places)
+
+pub default-is : (c d : List ℕ) (v : ℕ) (a : Action) → d ≡ settledRow v c → v ≡ defaultVerdict a → reactedAs v d [] ≡ defaulted a (ruleOf c [])
+default-is c d v a kept e = ap (λ (k : List ℕ). reactedAs v k []) kept ∙ ap (λ (v : ℕ). settled (ruleOf c []) v []) e

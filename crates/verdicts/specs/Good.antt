@@ -9,7 +9,7 @@ use Rattle.table.specs.declared.Rule.{Rule}
 use Rattle.table.specs.declared.Bucket.{Bucket}
 use Rattle.table.specs.declared.Bucket.the-variants as bucket
 use Rattle.table.specs.Table.{bucketOf, trackingOf}
-use Rattle.places.specs.Good.{placesIn, limitIn, placesTests}
+use Rattle.places.specs.Good.{roomIn, placesTests}
 use Rattle.verdicts.specs.Record.{RuleRecord}
 
 -- the rule has a bucket
@@ -21,12 +21,13 @@ hasBucket (bucket.Set b) = true
 abbrev pub levelGood : Bucket → ℕ → Bool
 levelGood b l = leb l 4294967000 && (hasBucket b || eqb l 0)
 
--- The tests of one rule's record, a line for each clause of 'A record is bad if'
+-- of both sockets
+abbrev pub levelsGood : Bucket → RuleRecord → Bool
+levelsGood b x = levelGood b (x .level0) && levelGood b (x .level1)
+
+-- The tests of one rule's record: its levels, and its places
 unfoldable pub recordTests : Rule → RuleRecord → List Bool
-recordTests r x =
-    leb (x .level) 4294967000
-    ∷ (hasBucket (bucketOf r) || eqb (x .level) 0)
-    ∷ placesTests (placesIn (trackingOf r)) (limitIn (trackingOf r)) (x .places)
+recordTests r x = levelsGood (bucketOf r) x ∷ placesTests (roomIn (trackingOf r)) (x .places)
 
 -- all of them pass
 unfoldable pub recordGood : Rule → RuleRecord → Bool

@@ -2,7 +2,8 @@
 -- Assumes nothing.
 use Prim.Native.Nat.{ℕ, _+_, _-_, _*_, min}
 use mathlib.Core.Bool.{Bool, false, cond, not}
-use mathlib.Core.List.{List}
+use mathlib.Core.List.{List, [], _∷_}
+use lib.ListN.{getD, set}
 use lib.Dec.{ltb}
 use Rattle.table.specs.declared.Action.{Action}
 use Rattle.table.specs.declared.Rule.{Rule}
@@ -15,7 +16,7 @@ use Rattle.conversations.specs.Tracking.{Tracked, tracked}
 use Rattle.conversations.specs.declared.Turn.{Turn}
 use Rattle.conversations.specs.declared.Progress.{Progress}
 use Rattle.conversations.specs.declared.Progress.the-variants as progress
-use Rattle.verdicts.specs.Record.{RuleRecord, ruleOf}
+use Rattle.verdicts.specs.Record.{RuleRecord, ruleOf, level0Word, level1Word, passedWord, blockedWord}
 
 -- ---- the verdicts, by the paper's numbers
 
@@ -31,6 +32,7 @@ blockedByRule = 2
 abbrev pub overRate : ℕ
 overRate = 3
 
+-- "verdict 5 if no place is free"; 6/12: "a socket at its number gets verdict 5"
 abbrev pub noPlaceFree : ℕ
 noPlaceFree = 5
 
@@ -55,13 +57,23 @@ verdictOf progress.NoConversation = noConversation
 verdictOf progress.NotInState = notInState
 verdictOf progress.NoPlaceFree = noPlaceFree
 
+-- ---- 6/12: "Each rule has a bucket per socket"
+
+-- the level of a socket
+abbrev pub levelOf : Bool → RuleRecord → ℕ
+levelOf second x = cond second (x .level1) (x .level0)
+
 -- ---- a record with one part anew
 
-abbrev pub withLevel : RuleRecord → ℕ → RuleRecord
-withLevel x l = record { level = l; passed = x .passed; blocked = x .blocked; places = x .places }
+-- both levels; that of a socket alone
+abbrev pub withLevels : RuleRecord → ℕ → ℕ → RuleRecord
+withLevels x l m = record { level0 = l; level1 = m; passed = x .passed; blocked = x .blocked; places = x .places }
+
+abbrev pub withLevel : RuleRecord → Bool → ℕ → RuleRecord
+withLevel x second l = withLevels x (cond second (x .level0) l) (cond second l (x .level1))
 
 abbrev pub withPlaces : RuleRecord → List Place → RuleRecord
-withPlaces x ps = record { level = x .level; passed = x .passed; blocked = x .blocked; places = ps }
+withPlaces x ps = record { level0 = x .level0; level1 = x .level1; passed = x .passed; blocked = x .blocked; places = ps }
 
 -- ---- step 2: time passes
 
@@ -70,9 +82,16 @@ abbrev pub drained : Bucket → ℕ → ℕ → ℕ
 drained bucket.Unset e l = l
 drained (bucket.Set b) e l = l - b .refill * e
 
--- level and places of one rule
+-- the same of the words of the counts
+abbrev pub drainedRow : Bucket → ℕ → List ℕ → List ℕ
+drainedRow b e c =
+    set (set c level0Word (drained b e (getD c level0Word 0))) level1Word (drained b e (getD c level1Word 0))
+
+-- levels and places of one rule
 unfoldable pub aged : ℕ → Rule → RuleRecord → RuleRecord
-aged e r x = withPlaces (withLevel x (drained (bucketOf r) e (x .level))) (agedPlaces (trackingOf r) e (x .places))
+aged e r x =
+    withPlaces (withLevels x (drained (bucketOf r) e (x .level0)) (drained (bucketOf r) e (x .level1)))
+    (agedPlaces (trackingOf r) e (x .places))
 
 -- ---- steps 3 and 4 of the deciding rule
 
@@ -126,25 +145,41 @@ abbrev pub reactedAs : ℕ → List ℕ → List (List ℕ) → Reacted
 reactedAs v c ps = record { verdict = v; after = ruleOf c ps }
 
 -- "One count of the decider, rule or default, rises by 1"
-abbrev pub settled : RuleRecord → ℕ → ℕ → List Place → Reacted
-settled x v l ps = record {
+abbrev pub settled : RuleRecord → ℕ → List Place → Reacted
+settled x v ps = record {
   verdict = v;
-  after = record { level = l; passed = counted (passes v) (x .passed); blocked = counted (not (passes v)) (x .blocked); places = ps };
+  after = record {
+    level0 = x .level0;
+    level1 = x .level1;
+    passed = counted (passes v) (x .passed);
+    blocked = counted (not (passes v)) (x .blocked);
+    places = ps;
+  };
 }
 
--- steps 3 to 5 of the deciding rule
+-- the same of the words of the counts
+abbrev pub settledRow : ℕ → List ℕ → List ℕ
+settledRow v c =
+    getD c level0Word 0
+    ∷ getD c level1Word 0
+    ∷ counted (passes v) (getD c passedWord 0)
+    ∷ counted (not (passes v)) (getD c blockedWord 0)
+    ∷ []
+
+-- steps 3 to 5 of the deciding rule: a frame raises and is held to the level of its own socket, which its quadruple has even where it has no conversation
 unfoldable pub reacted : Rule → Turn → RuleRecord → Reacted
 reacted r g x =
-    let l = raised (bucketOf r) (x .level) in
+    let second = g .quad .second in
+    let l = raised (bucketOf r) (levelOf second x) in
     let d = decided r g l (x .places) in
-    settled x (d .verdict) l (d .places)
+    settled (withLevel x second l) (d .verdict) (d .places)
 
 -- ---- steps 4 and 5 of the default
 
--- "No match: verdict 1 or 6 by the default", whose level and places stay as they are
+-- "No match: verdict 1 or 6 by the default", whose levels and places stay as they are
 abbrev pub defaultVerdict : Action → ℕ
 defaultVerdict a = cond (isAllow a) allowedByDefault blockedByDefault
 
 -- steps 4 and 5 of the default
 abbrev pub defaulted : Action → RuleRecord → Reacted
-defaulted a x = settled x (defaultVerdict a) (x .level) (x .places)
+defaulted a x = settled x (defaultVerdict a) (x .places)

@@ -1,10 +1,9 @@
-// Time passes over the record of one rule: its level falls, its conversations grow older.
+// Time passes over the record of one rule: its levels fall, its conversations grow older.
 ghost use mathlib.Core.Path.{_≡_};
 ghost use Prim.Native.Nat.{_-_, _*_};
-ghost use lib.ListN.{getD, set};
 ghost use Rattle.table.specs.Words.{ruleIn};
-ghost use Rattle.verdicts.specs.Record.{levelWord, ruleOf};
-ghost use Rattle.verdicts.specs.Rule.{drained, aged};
+ghost use Rattle.verdicts.specs.Record.{ruleOf};
+ghost use Rattle.verdicts.specs.Rule.{drainedRow, aged};
 use crate::shape::*;
 use crate::*;
 use places::RulePlaces;
@@ -33,13 +32,15 @@ fn drain(refill: u16, elapsed: u64, level: u32) -> u32
     (l - fall) as u32
 }
 
-fn age_level(b: Bucket, elapsed: u64, c: &mut CountWords)
-    ensures { λ r. ⌜ now (c .exit) ≡ set (now (c .entry)) levelWord (drained b elapsed (getD (now (c .entry)) levelWord 0)) ⌝ }
+// Both sockets' levels fall.
+fn age_levels(b: Bucket, elapsed: u64, c: &mut CountWords)
+    ensures { λ r. ⌜ now (c .exit) ≡ drainedRow b elapsed (now (c .entry)) ⌝ }
 {
     match b {
         Bucket::Unset => {}
         Bucket::Set(rate) => {
-            c[LEVEL] = drain(rate.refill, elapsed, c[LEVEL]);
+            c[LEVEL0] = drain(rate.refill, elapsed, c[LEVEL0]);
+            c[LEVEL1] = drain(rate.refill, elapsed, c[LEVEL1]);
         }
     }
 }
@@ -54,7 +55,7 @@ pub fn age_rule(r: &RuleWords, elapsed: u64, c: &mut CountWords, ps: &mut RulePl
     let b = bucket(r);
     let k = tracking(r);
     tell_counts(*c);
-    age_level(b, elapsed, c);
+    age_levels(b, elapsed, c);
     match k {
         Tracking::Unset => {}
         Tracking::Set(m) => age_places(m.limit, elapsed, ps),

@@ -9,6 +9,7 @@ ghost use Rattle.places.specs.Good.{placesIn};
 ghost use Rattle.verdicts.specs.Record.{ruleOf};
 ghost use Rattle.verdicts.specs.Rule.{decided, reacted, decidedAs, reactedAs, defaultVerdict, defaulted};
 use crate::rate::*;
+use crate::shape::*;
 use crate::verdict::Verdict;
 use crate::*;
 use conversations::Turn;
@@ -54,9 +55,11 @@ pub fn react(r: &RuleWords, g: Turn, c: &mut CountWords, ps: &mut RulePlaces) ->
         ⌝ }
 {
     let b = bucket(r);
-    let level = raise(b, c[LEVEL]);
+    let q = g.quad;
+    tell_counts(*c);
+    let level = raise_level(b, q.second, c);
     let v = decide(r, b, g, level, ps);
-    settle(v, level, c);
+    settle(v, c);
     v
 }
 
@@ -65,7 +68,7 @@ pub fn fall_back(a: Action, c: &mut CountWords) -> Verdict
     ensures { λ v. ⌜ reactedAs (v .number) (now (c .exit)) [] ≡ defaulted a (ruleOf (now (c .entry)) []) ⌝ }
 {
     let v = default_verdict(a);
-    settle(v, c[LEVEL], c);
+    settle(v, c);
     v
 }
 

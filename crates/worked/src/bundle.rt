@@ -1,5 +1,6 @@
 // Several messages in one datagram under table T: beside the worked set, for a person who reads them for the first time.
 ghost use Prim.Native.Nat.{_≤_, _<_};
+use crate::SOCKET;
 use crate::page;
 use crate::print::hex;
 use crate::print::spaces;
@@ -112,7 +113,16 @@ fn step(
     let bytes = datagram(n, over, at, value);
     let end = PAYLOAD + SIZE * n + over;
     let mut space = [0u8; ROOM];
-    let answer = firewall::judge(t, head, counts, places, &bytes[0..end], 0, &mut space);
+    let answer = firewall::judge(
+        t,
+        head,
+        counts,
+        places,
+        SOCKET,
+        &bytes[0..end],
+        0,
+        &mut space,
+    );
     let gap = page::beside(what, answer, t, &space);
     shows(answer, &space, gap);
     text(b"\n");

@@ -1,4 +1,4 @@
-// Judges M1 to M11 of the paper's worked set and prints them, a line for each frame; then wrong steps, bundles of messages, segments over IPv6, wrong tables.
+// Judges M1 to M11 of the paper's worked set and prints them, a line for each frame; then wrong steps, bundles of messages, segments over IPv6, frames on two sockets, wrong tables.
 // Everything goes through the entry points.
 mod bundle;
 mod expected;
@@ -7,6 +7,7 @@ mod page;
 mod print;
 mod rules;
 mod same;
+mod sockets;
 mod words;
 mod wrong;
 
@@ -32,6 +33,9 @@ use table::words::ROWS;
 use table::words::TableWords;
 use verdicts::COUNT_WORDS;
 
+// "captures and M1 to M11 use socket 0", and so do the frames beside them, but for those of two sockets.
+pub(crate) const SOCKET: u8 = 0;
+
 fn fresh(t: &TableWords, head: &mut Head, counts: &mut Counts, places: &mut Places) {
     let Started::Refused(r) = firewall::fresh(t, 0, head, counts, places) else {
         return;
@@ -53,10 +57,19 @@ fn show(
     let mut bytes = [0u8; MOST];
     let n = frame(f, &mut bytes);
     let mut space = [0u8; ROOM];
-    let answer = firewall::judge(t, head, counts, places, &bytes[0..n], l.reading, &mut space);
+    let answer = firewall::judge(
+        t,
+        head,
+        counts,
+        places,
+        SOCKET,
+        &bytes[0..n],
+        l.reading,
+        &mut space,
+    );
     page::asked(l.example, f, l.reading);
     let gap = page::answered(answer, t, &space);
-    page::records(t, counts, places, gap);
+    page::records(t, counts, places, SOCKET, gap);
     expected::met(e, answer, &space)
 }
 
@@ -149,6 +162,7 @@ fn main() {
     fresh(&t, &mut head, &mut counts, &mut places);
     bundle::bundles(&t, &mut head, &mut counts, &mut places);
     modem::segments(&mut head, &mut counts, &mut places);
+    sockets::both(&mut head, &mut counts, &mut places);
     wrong::tables(&mut head, &mut counts, &mut places);
     words::settings();
 }

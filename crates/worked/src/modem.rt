@@ -1,5 +1,6 @@
 // IPv6 from the new modem under table T: beside the worked set, for a person who reads them for the first time.
 ghost use Prim.Native.Nat.{_≤_};
+use crate::SOCKET;
 use crate::page;
 use crate::print::text;
 use crate::rules;
@@ -102,9 +103,18 @@ fn step(
     let bytes = segment(first, n, flags);
     let end = PAYLOAD + 8 * n + 20;
     let mut space = [0u8; ROOM];
-    let answer = firewall::judge(t, head, counts, places, &bytes[0..end], 0, &mut space);
+    let answer = firewall::judge(
+        t,
+        head,
+        counts,
+        places,
+        SOCKET,
+        &bytes[0..end],
+        0,
+        &mut space,
+    );
     let gap = page::beside(what, answer, t, &space);
-    page::records(t, counts, places, gap);
+    page::records(t, counts, places, SOCKET, gap);
 }
 
 // Rule 20 for senders of 2001:db8::/32 alone.

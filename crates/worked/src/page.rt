@@ -31,7 +31,8 @@ use table::words::bucket;
 use table::words::tracking;
 use verdicts::BLOCKED;
 use verdicts::CountWords;
-use verdicts::LEVEL;
+use verdicts::LEVEL0;
+use verdicts::LEVEL1;
 use verdicts::PASSED;
 use verdicts::verdict::Verdict;
 
@@ -120,7 +121,7 @@ fn verdict(n: u8) {
         Verdict::WRONG_FLAGS => left(b" wrong flags", 22),
         Verdict::NO_CONVERSATION => left(b" no such conversation", 22),
         Verdict::NOT_IN_STATE => left(b" not in this state", 22),
-        Verdict::NO_PLACE_FREE => left(b" no place free", 23),
+        Verdict::NO_PLACE_FREE => left(b" no place for it", 23),
         Verdict::BLOCKED_BY_DEFAULT => left(b" blocked by default", 23),
         _ => spaces(23),
     }
@@ -169,22 +170,33 @@ fn gap(name: usize, digits: usize) -> usize {
     29 - name - digits
 }
 
-// The records of the rules that have decided a frame: of each its bucket and its conversations.
-pub(crate) fn records(t: &TableWords, counts: &Counts, places: &Places, before: usize) {
+// The records of the rules that have decided a frame: of each its bucket of this socket, and its conversations.
+pub(crate) fn records(t: &TableWords, counts: &Counts, places: &Places, socket: u8, before: usize) {
     let mut gap = before;
     let mut k = 0;
     while k < RULES {
-        gap = of_rule(&t[k], &counts[k], &places[k], gap);
+        gap = of_rule(&t[k], &counts[k], &places[k], socket, gap);
         k += 1;
     }
     text(b"\n");
 }
 
-fn of_rule(r: &RuleWords, counts: &CountWords, places: &RulePlaces, before: usize) -> usize {
+fn of_rule(
+    r: &RuleWords,
+    counts: &CountWords,
+    places: &RulePlaces,
+    socket: u8,
+    before: usize,
+) -> usize {
     if (counts[PASSED] == 0) & (counts[BLOCKED] == 0) {
         return before;
     }
-    let gap = level(bucket(r), counts[LEVEL], before);
+    let n = if socket == 0 {
+        counts[LEVEL0]
+    } else {
+        counts[LEVEL1]
+    };
+    let gap = level(bucket(r), n, before);
     conversations(tracking(r), places, gap)
 }
 

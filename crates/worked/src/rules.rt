@@ -153,11 +153,13 @@ fn link(s: LinkSettings) -> bool {
     let vlan = s.vlan;
     let priority = s.priority;
     let ether = s.ether;
+    let socket = s.socket;
     let later = mac(false, b"destination MAC ", destination);
     let later = mac(later, b"source MAC ", source);
     let later = decimal16(later, b"VLAN ", vlan, b"");
     let later = decimal8(later, b"priority ", priority, b"");
-    hex16(later, b"ether 0x", ether)
+    let later = hex16(later, b"ether 0x", ether);
+    decimal8(later, b"socket ", socket, b"")
 }
 
 fn ipv4(later: bool, s: Ipv4Settings) -> bool {
@@ -205,10 +207,14 @@ fn limits(later: bool, rate: RateSettings, tracking: TrackingSettings) {
     let refill = rate.refill;
     let places = tracking.places;
     let limit = tracking.limit;
+    let number0 = tracking.number0;
+    let number1 = tracking.number1;
     let later = decimal16(later, b"bucket ", size, b"");
     let later = decimal16(later, b"refill ", refill, b" per second");
     let later = decimal8(later, b"", places, b" places");
-    decimal32(later, b"idle limit ", limit, b" ms");
+    let later = decimal32(later, b"idle limit ", limit, b" ms");
+    let later = decimal8(later, b"", number0, b" for socket 0");
+    decimal8(later, b"", number1, b" for socket 1");
 }
 
 fn action(a: Action) {

@@ -10,7 +10,8 @@ use table::PLACES;
 use table::RULES;
 use verdicts::BLOCKED;
 use verdicts::CountWords;
-use verdicts::LEVEL;
+use verdicts::LEVEL0;
+use verdicts::LEVEL1;
 use verdicts::PASSED;
 
 fn words(a: &[u64], b: &[u64]) -> bool {
@@ -50,7 +51,10 @@ fn held(a: &Places, b: &Places) -> bool {
 }
 
 fn row(a: &CountWords, b: &CountWords) -> bool {
-    (a[LEVEL] == b[LEVEL]) & (a[PASSED] == b[PASSED]) & (a[BLOCKED] == b[BLOCKED])
+    (a[LEVEL0] == b[LEVEL0])
+        & (a[LEVEL1] == b[LEVEL1])
+        & (a[PASSED] == b[PASSED])
+        & (a[BLOCKED] == b[BLOCKED])
 }
 
 fn counted(a: &Counts, b: &Counts) -> bool {

@@ -26,6 +26,8 @@ const PRIORITY: u8 = SettingNumber::PRIORITY.number;
 
 const ETHER_TYPE: u8 = SettingNumber::ETHER_TYPE.number;
 
+const SOCKET: u8 = SettingNumber::SOCKET.number;
+
 const IPV4_SOURCE: u8 = SettingNumber::IPV4_SOURCE.number;
 
 const IPV4_DESTINATION: u8 = SettingNumber::IPV4_DESTINATION.number;
@@ -62,6 +64,10 @@ const PLACES: u8 = SettingNumber::PLACES.number;
 
 const IDLE_LIMIT: u8 = SettingNumber::IDLE_LIMIT.number;
 
+const NUMBER0: u8 = SettingNumber::NUMBER0.number;
+
+const NUMBER1: u8 = SettingNumber::NUMBER1.number;
+
 // A refusal by its number; of a bad table also which rule, by its id and its place, and which of its settings, or that no rule is at fault.
 pub(crate) fn refused(r: Refusal, t: &TableWords) {
     let n = r.number;
@@ -73,7 +79,8 @@ pub(crate) fn refused(r: Refusal, t: &TableWords) {
         Refusal::NO_SPACE => text(b" event space too small"),
         Refusal::BAD_TABLE => at_fault(r, t),
         Refusal::BAD_RECORD => text(b" bad record"),
-        _ => text(b" no such state"),
+        Refusal::NO_SUCH_STATE => text(b" no such state"),
+        _ => text(b" no such socket"),
     }
 }
 
@@ -116,6 +123,7 @@ fn setting(n: u8) {
         VLAN_ID => text(b"VLAN id"),
         PRIORITY => text(b"priority"),
         ETHER_TYPE => text(b"ether type"),
+        SOCKET => text(b"socket"),
         _ => above_link(n),
     }
 }
@@ -146,6 +154,8 @@ fn above_transport(n: u8) {
         REFILL => text(b"refill"),
         PLACES => text(b"places"),
         IDLE_LIMIT => text(b"idle limit"),
+        NUMBER0 => text(b"number of socket 0"),
+        NUMBER1 => text(b"number of socket 1"),
         _ => text(b"no setting"),
     }
 }

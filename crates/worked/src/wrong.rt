@@ -1,4 +1,5 @@
 // What is answered to a step that is wrong, and to a table that is: beside the worked set, for a person who reads them for the first time.
+use crate::SOCKET;
 use crate::page;
 use crate::print::left;
 use crate::print::spaces;
@@ -40,9 +41,9 @@ fn step(
     let n = frame(Frame::Ack1, &mut bytes);
     bytes[FLAGS] = flags;
     let mut space = [0u8; ROOM];
-    let answer = firewall::judge(t, head, counts, places, &bytes[0..n], 0, &mut space);
+    let answer = firewall::judge(t, head, counts, places, SOCKET, &bytes[0..n], 0, &mut space);
     let gap = page::beside(what, answer, t, &space);
-    page::records(t, counts, places, gap);
+    page::records(t, counts, places, SOCKET, gap);
 }
 
 // From a fresh record: wrong flags come first, whether a conversation is held or not.

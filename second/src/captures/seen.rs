@@ -321,7 +321,7 @@ impl<'a> Look<'a> {
                 Err(refusal) => shadow.refused(&self.table, refusal.number(), time),
                 Ok(answer) => {
                     let mut space = [0; crate::event::SPACE];
-                    if judge(&self.table, &mut shadow.records, frame, time, &mut space) != Ok(answer) {
+                    if judge(&self.table, &mut shadow.records, replay::SOCKET, frame, time, &mut space) != Ok(answer) {
                         self.reach.hit(&shadow_name(shadow.refusal, shadow.ages));
                     }
                 }

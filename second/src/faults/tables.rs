@@ -24,11 +24,17 @@ const fn fault(name: &'static str, setting: u8, set: u32, unset: u32) -> RuleFau
 const WITHOUT_KIND: u32 = set::KIND | set::TRACKING;
 const TRACKED: u32 = set::KIND | set::TRACKING;
 
-const RULE_FAULTS: [RuleFault; 37] = [
+/// Some of the four settings of tracking, and not the others; the first of them is named.
+const fn only(name: &'static str, setting: u8, some: u32) -> RuleFault {
+    fault(name, setting, set::KIND | some, set::TRACKING & !some)
+}
+
+const RULE_FAULTS: [RuleFault; 51] = [
     fault("id-65535", setting::ID, 0, 0),
     fault("id-repeated", setting::ID, 0, 0),
     fault("vlan-above-4094", setting::VLAN, set::VLAN, 0),
     fault("priority-above-7", setting::PRIORITY, set::PRIORITY, 0),
+    fault("socket-above-1", setting::SOCKET, set::SOCKET, 0),
     fault("source-prefix-above-32", setting::SOURCE, set::SOURCE, 0),
     fault("dest-prefix-above-32", setting::DESTINATION, set::DESTINATION, 0),
     fault("source6-prefix-above-128", setting::SOURCE6, set::SOURCE6, set::IPV4),
@@ -48,19 +54,32 @@ const RULE_FAULTS: [RuleFault; 37] = [
     fault("ports-and-tracking-without-kind", setting::SOURCE_PORTS, set::SOURCE_PORTS | set::TRACKING, set::KIND),
     fault("size-only", setting::SIZE, set::SIZE, set::REFILL),
     fault("refill-only", setting::REFILL, set::REFILL, set::SIZE),
-    fault("places-only", setting::PLACES, set::KIND | set::PLACES, set::IDLE),
-    fault("idle-only", setting::IDLE, set::KIND | set::IDLE, set::PLACES),
+    only("places-only", setting::PLACES, set::PLACES),
+    only("idle-only", setting::IDLE, set::IDLE),
+    only("number0-only", setting::NUMBER0, set::NUMBER0),
+    only("number1-only", setting::NUMBER1, set::NUMBER1),
+    only("numbers-only", setting::NUMBER0, set::NUMBERS),
+    only("all-but-numbers", setting::PLACES, set::PLACES | set::IDLE),
+    only("all-but-places", setting::IDLE, set::IDLE | set::NUMBERS),
+    only("all-but-idle", setting::PLACES, set::PLACES | set::NUMBERS),
+    only("all-but-number0", setting::PLACES, set::PLACES | set::IDLE | set::NUMBER1),
+    only("all-but-number1", setting::PLACES, set::PLACES | set::IDLE | set::NUMBER0),
     fault("places-0", setting::PLACES, TRACKED, 0),
     fault("places-above-8", setting::PLACES, TRACKED, 0),
     fault("idle-0", setting::IDLE, TRACKED, 0),
     fault("idle-above-600000", setting::IDLE, TRACKED, 0),
-    fault("places-0-only", setting::PLACES, set::KIND | set::PLACES, set::IDLE),
-    fault("idle-0-only", setting::IDLE, set::KIND | set::IDLE, set::PLACES),
+    fault("number0-above-places", setting::NUMBER0, TRACKED, 0),
+    fault("number1-above-places", setting::NUMBER1, TRACKED, 0),
+    fault("numbers-above-places", setting::NUMBER0, TRACKED, 0),
+    only("places-0-only", setting::PLACES, set::PLACES),
+    only("idle-0-only", setting::IDLE, set::IDLE),
     fault("tracking-on-block", setting::PLACES, TRACKED, 0),
     fault("tracking-on-udp", setting::PLACES, TRACKED, 0),
     fault("tracking-without-kind", setting::PLACES, set::TRACKING, set::TRANSPORT),
-    fault("places-only-on-block", setting::PLACES, set::KIND | set::PLACES, set::IDLE),
-    fault("idle-only-on-block", setting::IDLE, set::KIND | set::IDLE, set::PLACES),
+    only("places-only-on-block", setting::PLACES, set::PLACES),
+    only("idle-only-on-block", setting::IDLE, set::IDLE),
+    only("number0-only-on-block", setting::NUMBER0, set::NUMBER0),
+    only("number1-only-on-udp", setting::NUMBER1, set::NUMBER1),
     fault("idle-0-on-udp", setting::PLACES, TRACKED, 0),
 ];
 
@@ -68,9 +87,11 @@ const RULE_FAULTS: [RuleFault; 37] = [
 const STATE_FAULTS: [&str; 3] = ["states-0", "states-above-8", "mark-beyond-rules"];
 
 impl RuleFault {
-    /// Whether a rule can be at fault in both ways: what one needs set the other does not need unset.
+    /// Whether a rule can be at fault in both ways: what one needs set the other does not need unset. Of too many places no number is
+    /// too many.
     fn goes_with(&self, other: &RuleFault) -> bool {
-        self.set & other.unset == 0 && self.unset & other.set == 0
+        let number = [setting::NUMBER0, setting::NUMBER1].contains(&other.setting);
+        self.set & other.unset == 0 && self.unset & other.set == 0 && !(self.name == "places-above-8" && number)
     }
 
     /// Where in 01's order its setting stands.
@@ -89,7 +110,7 @@ impl RuleFault {
         }
         let rule = &mut table.rules[place];
         rule.set = rule.set & !self.unset | self.set;
-        if [setting::PLACES, setting::IDLE].contains(&self.setting) {
+        if setting::TRACKING.contains(&self.setting) {
             self.spoil_tracking(rule, random);
         } else {
             self.spoil_value(rule, random);
@@ -101,6 +122,7 @@ impl RuleFault {
             "id-65535" => rule.id = NO_RULE,
             "vlan-above-4094" => rule.vlan = random.pick(&[4_095, 4_096, 65_535]),
             "priority-above-7" => rule.priority = random.pick(&[8, 255]),
+            "socket-above-1" => rule.socket = random.pick(&[2, 2, 3, 128, 255]),
             "source-prefix-above-32" => rule.source.length = random.pick(&[33, 64, 255]),
             "dest-prefix-above-32" => rule.destination.length = random.pick(&[33, 64, 255]),
             "source6-prefix-above-128" => rule.source6.length = above_128(random),
@@ -129,8 +151,13 @@ impl RuleFault {
             "places-above-8" => rule.places = random.pick(&[9, 255]),
             "idle-0" | "idle-0-only" => rule.idle = 0,
             "idle-above-600000" => rule.idle = random.pick(&[LONGEST_IDLE + 1, u32::MAX]),
-            "tracking-on-block" | "places-only-on-block" | "idle-only-on-block" => rule.action = Action::Block,
-            "tracking-on-udp" => rule.kind = Kind::Udp,
+            "number0-above-places" => rule.numbers[0] = rule.places + 1,
+            "number1-above-places" => rule.numbers[1] = rule.places + 1,
+            "numbers-above-places" => rule.numbers = rule.numbers.map(|_| random.pick(&[rule.places + 1, 9, 255])),
+            "tracking-on-block" | "places-only-on-block" | "idle-only-on-block" | "number0-only-on-block" => {
+                rule.action = Action::Block;
+            }
+            "tracking-on-udp" | "number1-only-on-udp" => rule.kind = Kind::Udp,
             "idle-0-on-udp" => (rule.idle, rule.kind) = (0, Kind::Udp),
             _ => {}
         }

@@ -23,8 +23,8 @@ impl<W: Write> Gen<W> {
         self.switch(0)?;
         for _ in 0..12 {
             let Some(place) = self.some_place(|rule| rule.has(set::RATE)) else { break };
-            let frame = aim(&self.table.rules[place], &mut self.random).bytes(&mut self.random);
-            self.judge(&frame)?;
+            self.any_socket();
+            self.judge_at(place)?;
         }
         self.print()?;
         // From one end of the clock to the other, with no rule active: refill times elapsed leaves 64 bits.
@@ -39,24 +39,35 @@ impl<W: Write> Gen<W> {
     fn high_rule(&mut self, records: &mut Records, place: usize) {
         let rule = self.table.rules[place];
         if rule.has(set::RATE) {
-            // The first one is at the highest, so that a short stream too meets it.
-            let first = !records.levels[..place].iter().any(|level| *level > HIGHEST_LEVEL / 2);
-            let below = self.random.pick(&[0, 1, 999, 1_000, 1_001, 3_000]);
-            records.levels[place] = HIGHEST_LEVEL - if first { 0 } else { below };
+            // The first one is at the highest on both sockets, so that a short stream too meets it.
+            let first = !records.levels[..place].iter().any(|[level, _]| *level > HIGHEST_LEVEL / 2);
+            records.levels[place] = std::array::from_fn(|_| {
+                let below = self.random.pick(&[0, 1, 999, 1_000, 1_001, 3_000]);
+                HIGHEST_LEVEL - if first { 0 } else { below }
+            });
         }
-        if !rule.has(set::TRACKING) {
-            return;
+        if rule.has(set::TRACKING) {
+            self.high_places(&rule, records, place);
         }
+    }
+
+    /// Conversations of either socket, as many as it may hold, in every place that is left for one.
+    fn high_places(&mut self, rule: &Rule, records: &mut Records, place: usize) {
+        (0..PLACES).for_each(|slot| records.free(place, slot));
         for slot in 0..usize::from(rule.places) {
-            records.free(place, slot);
-            let draft = aim(&rule, &mut self.random);
+            let draft = aim(rule, &mut self.random);
             let quadruple = Quadruple::new(draft.addresses(), draft.sport, draft.dport);
-            if records.find(place, quadruple).is_some() {
+            let sockets = below_number(rule, records, place);
+            if sockets.is_empty() {
+                return;
+            }
+            let socket = self.random.pick(&sockets);
+            if records.find(place, socket, quadruple).is_some() {
                 continue;
             }
             let age = rule.idle - 1 - self.random.below(rule.idle.into()) as u32 / 2;
-            records.conversations[place][slot] = Conversation { quadruple, age };
-            records.held[place][slot] = self.random.pick(&[OPENING, RUNNING, CLOSING]);
+            let state = self.random.pick(&[OPENING, RUNNING, CLOSING]);
+            records.hold(place, slot, state, socket, Conversation { quadruple, age });
         }
     }
 
@@ -78,7 +89,8 @@ impl<W: Write> Gen<W> {
         Ok(())
     }
 
-    /// Calls that must refuse in their order, whatever else is wrong with what they are given.
+    /// Calls that must refuse in their order, whatever else is wrong with what they are given; the first that is refused 4, and the first
+    /// that is refused 5, on a socket that there is not.
     fn other_calls(&mut self) -> io::Result<()> {
         if self.random.chance(40) {
             let state = self.random.pick(&[0, 0, 9]);
@@ -87,23 +99,32 @@ impl<W: Write> Gen<W> {
         if self.random.chance(30) {
             self.odd_length(false)?;
         }
-        if self.random.chance(30) {
+        let refused = records::check(&self.table, &self.records).err();
+        let unseen = refused.is_some_and(|refused| self.reach.count(&before_9(refused)) == 0);
+        if unseen || self.random.chance(20) {
+            self.no_socket();
+        }
+        if unseen || self.random.chance(30) {
             self.aimed()?;
         }
+        self.any_socket();
         Ok(())
     }
 
-    /// Conversations of some age in more than one place, and a level: what another table can make bad.
+    /// From fresh records, conversations of either socket, of some age and in more than one place, and levels: what another table can
+    /// make bad.
     pub(super) fn warm_up(&mut self) -> io::Result<()> {
-        self.switch(0)?;
         self.now = self.now.min(u64::MAX - 100);
+        self.fresh(self.now)?;
         let rules: Vec<Rule> = self.table.rules().to_vec();
-        for rule in rules.iter().filter(|rule| rule.id == STEADY || rule.has(set::RATE)).take(2).cycle().take(10) {
+        let two = rules.iter().filter(|rule| rule.id == STEADY || rule.has(set::RATE)).take(2);
+        for (turn, rule) in two.cycle().take(10).enumerate() {
             self.now += self.random.below(2);
-            let mut draft = aim(rule, &mut self.random);
-            draft.flags = SYN;
+            self.socket = (turn / 2 % SOCKETS) as u8;
+            self.aim_socket(rule);
+            let draft = Draft { flags: SYN, chain: vec![], ..aim(rule, &mut self.random) };
             let frame = draft.bytes(&mut self.random);
-            self.judge(&frame)?;
+            self.judge_in(&frame, SPACE)?;
         }
         Ok(())
     }

@@ -13,6 +13,7 @@ impl<W: Write> Gen<W> {
     }
 
     fn show(&mut self, bundle: Bundle) -> io::Result<()> {
+        self.turn_socket();
         let by_default = bundle == Bundle::AllowedAndBlocked { default: Action::Allow };
         if by_default {
             self.switch(ALLOWING)?;

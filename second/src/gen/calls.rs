@@ -6,6 +6,7 @@ impl<W: Write> Gen<W> {
     pub(super) fn put_table(&mut self, table: &Table) -> io::Result<()> {
         let image = image::write_table(table, &mut self.random);
         self.table = image::read_table(&image);
+        self.across.push(b'T');
         self.output.write_all(b"T")?;
         self.output.write_all(&image)
     }
@@ -14,6 +15,7 @@ impl<W: Write> Gen<W> {
         let image = image::write_records(records, &mut self.random);
         self.records = image::read_records(&image);
         assert_eq!(self.records, *records, "an image says all that records hold");
+        self.across.push(b'R');
         self.output.write_all(b"R")?;
         self.output.write_all(&image)
     }
@@ -35,6 +37,7 @@ impl<W: Write> Gen<W> {
         if let Some(records) = self.note(records::fresh(&self.table, reading)) {
             self.records = records;
         }
+        self.across.push(b'F');
         self.output.write_all(b"F")?;
         self.output.write_all(&reading.to_be_bytes())
     }
@@ -69,15 +72,24 @@ impl<W: Write> Gen<W> {
     }
 
     pub(super) fn judge(&mut self, frame: &[u8]) -> io::Result<()> {
+        let space = self.space();
+        self.judge_in(frame, space)
+    }
+
+    /// With an event space of so many bytes. A socket that there is not is that of one call alone.
+    pub(super) fn judge_in(&mut self, frame: &[u8], space: usize) -> io::Result<()> {
         if self.left == 0 {
             return Ok(());
         }
         self.left -= 1;
-        let mut space = vec![UNTOUCHED; self.space()];
-        let (before, reading) = (self.records.clone(), self.now);
-        let judged = judge(&self.table, &mut self.records, frame, reading, &mut space);
-        let (table, after) = (&self.table, &self.records);
-        self.reach.judged(&Call { table, before: &before, after, reading, frame, space: &space, judged });
+        let mut space = vec![UNTOUCHED; space];
+        let (before, reading, socket) = (self.records.clone(), self.now, self.socket);
+        let judged = judge(&self.table, &mut self.records, socket, frame, reading, &mut space);
+        self.say_socket(socket)?;
+        let (table, before, after) = (&self.table, &before, &self.records);
+        let across = if socket == 0 { &[][..] } else { &self.across };
+        self.reach.judged(&Call { table, before, after, socket, across, reading, frame, space: &space, judged });
+        self.socket %= SOCKETS as u8;
         self.output.write_all(b"J")?;
         self.output.write_all(&reading.to_be_bytes())?;
         self.output.write_all(&(space.len() as u16).to_be_bytes())?;

@@ -20,13 +20,18 @@ impl<W: Write> Gen<W> {
         };
         let (wanted, flags) = self.least_reached(place);
         let (held, flags) = self.toward(place, wanted, flags);
-        let mut draft = aim(&self.table.rules[place], &mut self.random);
+        let rule = self.table.rules[place];
+        let mut draft = aim(&rule, &mut self.random);
         draft.kind = Kind::Tcp;
         draft.flags = flags;
+        self.aim_socket(&rule);
         if let Some(slot) = self.slot_held_as(place, held) {
             let of = self.records.conversations[place][slot].quadruple;
             draft.set_addresses(of.addresses);
             (draft.sport, draft.dport) = (of.sport(), of.dport());
+            self.socket_of(place, slot);
+        } else if flags & SYN != 0 {
+            self.socket_with_room(place);
         }
         if self.random.chance(5) {
             return self.damaged(draft);
@@ -35,9 +40,14 @@ impl<W: Write> Gen<W> {
         self.judge(&frame)
     }
 
+    /// Whether every set of flags has met every held state.
+    pub(super) fn all_flags_seen(&self) -> bool {
+        all_flags().iter().all(|(held, flags)| self.reach.count(&flags_name(*held, *flags)) > 0)
+    }
+
     /// Among the cases that came least often, mostly one that can come now.
     fn least_reached(&mut self, place: usize) -> (u8, u8) {
-        let all: Vec<(u8, u8)> = (0..4).flat_map(|held| flag_sets().map(move |flags| (held, flags))).collect();
+        let all = all_flags();
         let count = |&(held, flags): &(u8, u8)| self.reach.count(&flags_name(held, flags));
         let least = all.iter().map(count).min().unwrap_or(0);
         let rare: Vec<(u8, u8)> = all.iter().copied().filter(|case| count(case) == least).collect();
@@ -59,7 +69,9 @@ impl<W: Write> Gen<W> {
     /// The segment to send now, and on which conversation, so as to come to the wanted one.
     fn toward(&mut self, place: usize, wanted: u8, flags: u8) -> (u8, u8) {
         let has = |held: u8| self.records.held[place].contains(&held);
-        let full = !self.records.held[place][..usize::from(self.table.rules[place].places)].contains(&FREE);
+        let rule = &self.table.rules[place];
+        let full = self.records.first_free(place, rule.places).is_none()
+            || below_number(rule, &self.records, place).is_empty();
         if wanted == FREE || has(wanted) {
             (wanted, flags)
         } else if wanted != OPENING && has(OPENING) {
@@ -72,4 +84,9 @@ impl<W: Write> Gen<W> {
             (FREE, self.random.pick(&[SYN, SYN | ACK]))
         }
     }
+}
+
+/// Each held state with each set of flags.
+fn all_flags() -> Vec<(u8, u8)> {
+    (0..4).flat_map(|held| flag_sets().map(move |flags| (held, flags))).collect()
 }

@@ -12,6 +12,7 @@ impl<W: Write> Gen<W> {
     }
 
     fn grant(&mut self, wish: Wish) -> io::Result<()> {
+        self.turn_socket();
         match wish {
             Wish::Event(event, _) => {
                 self.switch(if event == 51 { IPV4_ALONE } else { IPV6_ALONE })?;
@@ -64,6 +65,7 @@ impl<W: Write> Gen<W> {
     }
 
     fn free_places(&mut self, draft: &Draft) -> io::Result<()> {
+        let socket = self.socket;
         for slot in 0..PLACES {
             if self.records.held[TRACKED][slot] == FREE {
                 continue;
@@ -71,28 +73,32 @@ impl<W: Write> Gen<W> {
             let of = self.records.conversations[TRACKED][slot].quadruple;
             let mut reset = Draft { sport: of.sport(), dport: of.dport(), ..draft.clone() };
             reset.set_addresses(of.addresses);
+            self.socket = self.records.sockets[TRACKED][slot];
             self.send(&reset, RST)?;
         }
+        self.socket = socket;
         Ok(())
     }
 
-    /// Records with both pairs, then a frame of each conversation.
+    /// Records with both pairs, each on one socket, then a frame of each conversation.
     fn nearly_alike(&mut self, wish: Wish) -> io::Result<()> {
         let half = self.random.pick(&HALVES);
         let [one, other] = self.two_addresses(Held::AlikeButKind);
         let [third, fourth] = self.two_addresses(Held::OneBitApart(half));
+        let [pair, other_pair] = std::array::from_fn(|_| self.random.below(SOCKETS as u64) as u8);
+        let all = [(one, pair), (third, other_pair), (other, pair), (fourth, other_pair)];
         let mut draft = wish.draft(&self.table, &mut self.random);
         let mut records = self.records.clone();
-        for (slot, addresses) in [one, third, other, fourth].into_iter().enumerate() {
+        for (slot, (addresses, socket)) in all.into_iter().enumerate() {
             let quadruple = Quadruple::new(addresses, draft.sport, draft.dport);
-            records.held[TRACKED][slot] = RUNNING;
-            records.conversations[TRACKED][slot] = Conversation { quadruple, age: slot as u32 };
+            records.hold(TRACKED, slot, RUNNING, socket, Conversation { quadruple, age: slot as u32 });
         }
         self.put_records(&records)?;
         self.check()?.expect("the quadruples differ");
         self.reach.hit(&wish.name());
-        for addresses in [one, third, other, fourth] {
+        for (addresses, socket) in all {
             draft.set_addresses(addresses);
+            self.socket = socket;
             self.send(&draft, ACK)?;
         }
         self.print()

@@ -4,8 +4,8 @@ use super::*;
 use crate::dispatch::{Agreement, Bundle, AGREEMENTS};
 use crate::draft::{At, Broken, Packet, BROKEN};
 use crate::layers::{Message, Transport, IPV6_HEADER, MESSAGE_HEADER};
-use crate::matching::{matching_layers, message_agrees, ALL_LAYERS};
-use crate::table::{Action, Rule};
+use crate::matching::message_agrees;
+use crate::table::Action;
 use crate::world::SOMEIPS;
 
 /// A datagram's whole messages, one behind the other, and what is left over.
@@ -174,8 +174,7 @@ impl Reach {
         let disagreeing: Vec<usize> = (0..count).filter(|at| !agrees[*at]).collect();
         let one_later = disagreeing.len() == 1 && disagreeing[0] > 0;
         // Without one of its settings, the rule would agree with all.
-        let without = |setting: u32| Rule { set: rule.set & !setting, ..*rule };
-        let in_this = |setting: &u32| messages.iter().all(|message| message_agrees(&without(*setting), message));
+        let in_this = |setting: &u32| messages.iter().all(|message| message_agrees(&without(rule, *setting), message));
         for setting in SOMEIPS.into_iter().filter(|setting| one_later && rule.has(*setting) && in_this(setting)) {
             self.shown(Bundle::Disagrees(choice(rule)));
             self.shown_if(Bundle::DisagreesIn(setting), rule.set & set::SOMEIP == set::SOMEIP);
@@ -205,7 +204,7 @@ impl Reach {
     fn in_part(&mut self, call: &Call, answer: Answer, layers: &Layers) {
         let Some(someip) = layers.someip.filter(|_| answer.rule == NO_RULE) else { return };
         let marks = call.table.states[call.before.state as usize].marks;
-        let fails = |rule: &Rule| matching_layers(rule, layers) == ALL_LAYERS - 1;
+        let fails = |rule: &Rule| matching_layers(rule, call.socket, layers) == ALL_LAYERS - 1;
         let rules = call.table.rules().iter().enumerate();
         let failing: Vec<&Rule> =
             rules.filter(|(at, rule)| marks >> at & 1 != 0 && fails(rule)).map(|(_, rule)| rule).collect();

@@ -3,9 +3,8 @@
 use super::*;
 use crate::draft::{Damage, Packet};
 use crate::layers::{is_extension, Addresses, FRAGMENT, IPV6_HEADER, LONGEST_CHAIN};
-use crate::matching::{matching_layers, ALL_LAYERS};
 use crate::modem::{Compared, Half, Held, Meeting, Protocol, Wish, ICMPV6, LENGTHS};
-use crate::table::{Action, Rule};
+use crate::table::Action;
 
 /// The headers that lie one behind the other, however many, and what ends them.
 struct Chain {
@@ -42,15 +41,6 @@ impl Chain {
     }
 }
 
-fn matches(rule: &Rule, layers: &Layers) -> bool {
-    matching_layers(rule, layers) == ALL_LAYERS
-}
-
-/// The rule with some settings no longer set.
-fn without(rule: &Rule, settings: u32) -> Rule {
-    Rule { set: rule.set & !settings, ..*rule }
-}
-
 impl Reach {
     fn granted(&mut self, wish: Wish) {
         self.hit(&wish.name());
@@ -67,15 +57,10 @@ impl Reach {
         if answer.length > 0 {
             self.event(be16(call.space, 0), layers);
         }
-        let decider = call.table.rules().iter().position(|rule| rule.id == answer.rule);
-        let marks = call.table.states[call.before.state as usize].marks;
-        for (place, rule) in call.table.rules().iter().enumerate() {
-            let looked_at = decider.map_or(true, |decider| place <= decider);
-            if looked_at && marks >> place & 1 != 0 {
-                self.ip_settings(rule, call.frame, layers, decider == Some(place));
-            }
+        for (rule, decides) in call.looked_at(answer) {
+            self.ip_settings(rule, call, layers, decides);
         }
-        if let Some(place) = decider {
+        if let Some(place) = call.decider(answer) {
             let settings6 = call.table.rules[place].has(set::IPV6);
             self.granted_if(Wish::Decides(Action::Allow), settings6 && answer.verdict == Verdict::Passed);
             self.granted_if(Wish::Decides(Action::Block), settings6 && answer.verdict == Verdict::Blocked);
@@ -181,14 +166,15 @@ impl Reach {
     }
 
     /// What the IP settings of a rule that is looked at do, where they alone decide whether it matches.
-    fn ip_settings(&mut self, rule: &Rule, frame: &[u8], layers: &Layers, decides: bool) {
+    fn ip_settings(&mut self, rule: &Rule, call: &Call, layers: &Layers, decides: bool) {
+        let without = |settings: u32| matches(&without(rule, settings), call.socket, layers);
         match layers.ip {
-            Some(Ip::V4(ip)) if matches(&without(rule, set::IPV6), layers) => match rule.set & set::IPV6 {
+            Some(Ip::V4(ip)) if without(set::IPV6) => match rule.set & set::IPV6 {
                 set::SOURCE6 => self.granted_if(Wish::Meets(Meeting::AnyIpv6), rule.source6.length == 0),
                 set::PROTOCOL6 => self.granted_if(Wish::Meets(Meeting::ProtocolIpv6), rule.protocol6 == ip.protocol),
                 _ => {}
             },
-            Some(Ip::V6(ip)) if rule.has(set::IPV4) && matches(&without(rule, set::IPV4), layers) => {
+            Some(Ip::V6(ip)) if rule.has(set::IPV4) && without(set::IPV4) => {
                 let number = ip.payload.map(|payload| payload.protocol);
                 match rule.set & set::IPV4 {
                     set::SOURCE => self.granted_if(Wish::Meets(Meeting::AnyIpv4), rule.source.length == 0),
@@ -197,15 +183,16 @@ impl Reach {
                 }
             }
             Some(Ip::V6(ip)) => {
-                self.prefix(rule, layers, decides, set::SOURCE6);
-                self.prefix(rule, layers, decides, set::DESTINATION6);
-                self.protocol(rule, frame[layers.rest + 6], ip.payload.is_some(), layers, decides);
+                self.prefix(rule, call.socket, layers, decides, set::SOURCE6);
+                self.prefix(rule, call.socket, layers, decides, set::DESTINATION6);
+                let (first, followed) = (call.frame[layers.rest + 6], ip.payload.is_some());
+                self.protocol(rule, first, followed, decides, without(set::PROTOCOL6));
             }
             _ => {}
         }
     }
 
-    fn prefix(&mut self, rule: &Rule, layers: &Layers, decides: bool, setting: u32) {
+    fn prefix(&mut self, rule: &Rule, socket: u8, layers: &Layers, decides: bool, setting: u32) {
         let length = if setting == set::SOURCE6 { rule.source6.length } else { rule.destination6.length };
         if !rule.has(setting) || !LENGTHS.contains(&length) {
             return;
@@ -214,7 +201,7 @@ impl Reach {
             let mut other = *rule;
             let prefix = if setting == set::SOURCE6 { &mut other.source6 } else { &mut other.destination6 };
             prefix.length = length;
-            matches(&other, layers)
+            matches(&other, socket, layers)
         };
         if decides {
             self.granted(Wish::Prefix(Compared::Agrees(length)));
@@ -224,8 +211,9 @@ impl Reach {
         }
     }
 
-    /// `first` is the header's own number, and `followed` whether one comes after the chain.
-    fn protocol(&mut self, rule: &Rule, first: u8, followed: bool, layers: &Layers, decides: bool) {
+    /// `first` is the header's own number, `followed` whether one comes after the chain, and `would` whether the rule would decide
+    /// without its protocol.
+    fn protocol(&mut self, rule: &Rule, first: u8, followed: bool, decides: bool, would: bool) {
         let number = rule.protocol6;
         if !rule.has(set::PROTOCOL6) {
             return;
@@ -233,7 +221,7 @@ impl Reach {
         if decides {
             let agrees = if first == number { Protocol::Agrees } else { Protocol::AgreesAfterChain };
             self.granted(Wish::Protocol(agrees));
-        } else if matches(&without(rule, set::PROTOCOL6), layers) {
+        } else if would {
             if is_extension(number) || number == FRAGMENT {
                 self.granted_if(Wish::Protocol(Protocol::Is(number)), first == number);
             } else {
@@ -242,12 +230,16 @@ impl Reach {
         }
     }
 
+    /// On one socket, since on two sockets even one quadruple is two conversations.
     fn held_together(&mut self, records: &Records, place: usize) {
-        let slots = (0..PLACES).filter(|slot| records.held[place][*slot] != FREE);
-        let held: Vec<Quadruple> = slots.map(|slot| records.conversations[place][slot].quadruple).collect();
-        for (at, one) in held.iter().enumerate() {
-            for other in &held[at + 1..] {
-                self.two_held(one, other);
+        for socket in [0, 1] {
+            let of = |slot: &usize| records.held[place][*slot] != FREE && records.sockets[place][*slot] == socket;
+            let slots = (0..PLACES).filter(of);
+            let held: Vec<Quadruple> = slots.map(|slot| records.conversations[place][slot].quadruple).collect();
+            for (at, one) in held.iter().enumerate() {
+                for other in &held[at + 1..] {
+                    self.two_held(one, other);
+                }
             }
         }
     }

@@ -2,17 +2,18 @@
 
 use super::*;
 
+/// The range of a bad table may have its low end above its high.
 fn port_in(range: Range, random: &mut Random) -> u16 {
     match random.below(3) {
         0 => range.low,
         1 => range.high,
-        _ => random.between(range.low.into(), range.high.into()) as u16,
+        _ => random.between(range.low.min(range.high).into(), range.low.max(range.high).into()) as u16,
     }
 }
 
 /// An address that agrees with the prefix, its other bits as they like.
 fn address_in(prefix: Prefix, other: u32) -> u32 {
-    let beyond = (u64::from(u32::MAX) >> prefix.length) as u32;
+    let beyond = u32::MAX.checked_shr(prefix.length.into()).unwrap_or(0);
     prefix.address & !beyond | other & beyond
 }
 
@@ -171,7 +172,7 @@ fn near_bit6(prefix: Prefix6, random: &mut Random) -> u128 {
 }
 
 fn near_bit(prefix: Prefix, random: &mut Random) -> u32 {
-    let bit = (32 - u32::from(prefix.length)).saturating_sub(random.below(2) as u32);
+    let bit = (32 - u32::from(prefix.length.min(32))).saturating_sub(random.below(2) as u32);
     1 << bit.min(31)
 }
 

@@ -3,10 +3,12 @@ use Rattle.cases.proofs.run.Statement.{statement}
 use Rattle.cases.proofs.run.Tie as tie
 
 abbrev Inv-loop : tie.InvT-loop
-Inv-loop buf₀ image₀ out₀ used₀ span₀ head₀ counts₀ places₀ t₀ turns₀ buf image out used span head counts places t turns = Unit {0}
+Inv-loop buf₀ image₀ out₀ used₀ span₀ head₀ counts₀ places₀ t₀ socket₀ turns₀ buf image out used span head counts places t socket turns =
+    Unit {0}
 
 abbrev μ-loop : tie.MeasureT-loop
-μ-loop buf₀ image₀ out₀ used₀ span₀ head₀ counts₀ places₀ t₀ turns₀ buf image out used span head counts places t turns = turns
+μ-loop buf₀ image₀ out₀ used₀ span₀ head₀ counts₀ places₀ t₀ socket₀ turns₀ buf image out used span head counts places t socket turns =
+    turns
 
 loop-holds : tie.Need-loop-holds Inv-loop μ-loop
 loop-holds c = search needs
@@ -38,6 +40,9 @@ table-of-requires c κs = search needs
 table-requires : tie.Need-table-requires Inv-loop μ-loop
 table-requires c κs = search needs
 
+element-copy-out-socket : tie.Need-element-copy-out-socket Inv-loop μ-loop
+element-copy-out-socket c = search needs
+
 sub-turns : tie.Need-sub-turns Inv-loop μ-loop
 sub-turns c = search needs
 
@@ -66,6 +71,7 @@ run-spec =
     returns-2
     table-of-requires
     table-requires
+    element-copy-out-socket
     sub-turns
     loop-less
     loop-again

@@ -22,13 +22,13 @@ use Rattle.deciding.proofs.best_fit.Statement.{statement}
 use Rattle.deciding.proofs.best_fit.Tie as tie
 
 abbrev Inv-loop : tie.InvT-loop
-Inv-loop t state s l marks count place₀ most₀ i₀ place most i =
+Inv-loop t state second s l marks count place₀ most₀ i₀ place most i =
     (i ≤ count)
     × (count ≡ tableIn t .rulecount)
-    × Fits (scoreOf (tableIn t) state (seen s l)) i place most
+    × Fits (scoreOf (tableIn t) state (seen second s l)) i place most
 
 abbrev μ-loop : tie.MeasureT-loop
-μ-loop t state s l marks count place₀ most₀ i₀ place most i = count - i
+μ-loop t state second s l marks count place₀ most₀ i₀ place most i = count - i
 
 -- the loop goes on at a place that there is
 goes-on : (c : tie.In-loop Inv-loop μ-loop) → c .before .loop .i < c .before .before .rulecount .result
@@ -50,12 +50,12 @@ row-scored t state x marks i n h e k =
 scored :
     (c : tie.After-score Inv-loop μ-loop)
     → c .score .result
-    ≡ scoreOf (tableIn (c .before .before .before .before .before .before .before .before .before .args .t .now)) (c .before .before .before .before .before .before .before .before .before .args .state) (seen (c .before .before .before .before .before .before .before .before .before .args .s .now) (c .before .before .before .before .before .before .before .before .before .args .l)) (c .before .before .before .loop .i)
+    ≡ scoreOf (tableIn (c .before .before .before .before .before .before .before .before .before .args .t .now)) (c .before .before .before .before .before .before .before .before .before .args .state) (seen (c .before .before .before .before .before .before .before .before .before .args .second) (c .before .before .before .before .before .before .before .before .before .args .s .now) (c .before .before .before .before .before .before .before .before .before .args .l)) (c .before .before .before .loop .i)
 scored c =
     let q = c .before .before .before in
     let m = q .before .before in
     let a = m .before .before .before .before .args in
-    row-scored (a .t .now) (a .state) (seen (a .s .now) (a .l)) (m .marks-of .result) (q .loop .i) (c .score .result) (omega (arith, goes-on (c .before .before))) (m .marks-of .ensures) (c .score .ensures)
+    row-scored (a .t .now) (a .state) (seen (a .second) (a .s .now) (a .l)) (m .marks-of .result) (q .loop .i) (c .score .result) (omega (arith, goes-on (c .before .before))) (m .marks-of .ensures) (c .score .ensures)
 
 tell-table-requires : tie.Need-tell-table-requires Inv-loop μ-loop
 tell-table-requires c κs = search needs
@@ -69,7 +69,7 @@ rulecount-requires c κs = search needs
 loop-holds : tie.Need-loop-holds Inv-loop μ-loop
 loop-holds c =
     let a = c .before .before .before .before .before .args in
-    (omega arith, c .rulecount .ensures, fits-start (scoreOf (tableIn (a .t .now)) (a .state) (seen (a .s .now) (a .l))))
+    (omega arith, c .rulecount .ensures, fits-start (scoreOf (tableIn (a .t .now)) (a .state) (seen (a .second) (a .s .now) (a .l))))
 
 mul-score : tie.Need-mul-score Inv-loop μ-loop
 mul-score c = omega (arith, goes-on c)
@@ -91,7 +91,7 @@ loop-again c =
     let n = c .before in
     let q = n .before .before .before in
     let a = q .before .before .before .before .before .before .args in
-    let f = scoreOf (tableIn (a .t .now)) (a .state) (seen (a .s .now) (a .l)) in (
+    let f = scoreOf (tableIn (a .t .now)) (a .state) (seen (a .second) (a .s .now) (a .l)) in (
       omega (arith, goes-on (n .before .before)),
       q .loop .inv .1,
       ⊎-elim
@@ -104,18 +104,18 @@ returns : tie.Need-returns Inv-loop μ-loop
 returns c =
     let q = c .before .before in
     let a = q .before .before .before .before .before .before .args in
-    fits-none (tableIn (a .t .now)) (a .state) (seen (a .s .now) (a .l)) (q .loop .place) (q .loop .most) (c .if2 .taken)
-    (fits-end _ (q .loop .i) _ _ _ (score-small (tableIn (a .t .now)) (a .state) (seen (a .s .now) (a .l))) (omega arith) (rw (q .loop .inv .1) at (c .before .loop-test .left)) (q .loop .inv .2))
+    fits-none (tableIn (a .t .now)) (a .state) (seen (a .second) (a .s .now) (a .l)) (q .loop .place) (q .loop .most) (c .if2 .taken)
+    (fits-end _ (q .loop .i) _ _ _ (score-small (tableIn (a .t .now)) (a .state) (seen (a .second) (a .s .now) (a .l))) (omega arith) (rw (q .loop .inv .1) at (c .before .loop-test .left)) (q .loop .inv .2))
 
-sub-t21 : tie.Need-sub-t21 Inv-loop μ-loop
-sub-t21 c = omega arith
+sub-t22 : tie.Need-sub-t22 Inv-loop μ-loop
+sub-t22 c = omega arith
 
 returns-2 : tie.Need-returns-2 Inv-loop μ-loop
 returns-2 c =
     let q = c .before .before in
     let a = q .before .before .before .before .before .before .args in
-    best-fits (tableIn (a .t .now)) (a .state) (seen (a .s .now) (a .l)) (q .loop .place) (q .loop .most) (c .if2 .left)
-    (fits-end _ (q .loop .i) _ _ _ (score-small (tableIn (a .t .now)) (a .state) (seen (a .s .now) (a .l))) (omega arith) (rw (q .loop .inv .1) at (c .before .loop-test .left)) (q .loop .inv .2))
+    best-fits (tableIn (a .t .now)) (a .state) (seen (a .second) (a .s .now) (a .l)) (q .loop .place) (q .loop .most) (c .if2 .left)
+    (fits-end _ (q .loop .i) _ _ _ (score-small (tableIn (a .t .now)) (a .state) (seen (a .second) (a .s .now) (a .l))) (omega arith) (rw (q .loop .inv .1) at (c .before .loop-test .left)) (q .loop .inv .2))
 
 pub best-fit-spec : {M : Type 1} → statement M
 best-fit-spec =
@@ -134,5 +134,5 @@ best-fit-spec =
     loop-less
     loop-again
     returns
-    sub-t21
+    sub-t22
     returns-2)

@@ -22,7 +22,7 @@ layers-matched-requires c κs = search needs
 add-result : tie.Need-add-result
 add-result c =
     let a = c .before .before .before .before .args in
-    omega (arith, c .layers-matched .ensures, leading-small (ruleIn (a .r .now)) (seen (a .s .now) (a .l)))
+    omega (arith, c .layers-matched .ensures, leading-small (ruleIn (a .r .now)) (seen (a .second) (a .s .now) (a .l)))
 
 returns-2 : tie.Need-returns-2
 returns-2 c = add-one _ ∙ count-goes (c .before .before .marked .ensures) (c .before .if1 .left) (c .layers-matched .ensures)

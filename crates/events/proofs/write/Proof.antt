@@ -60,9 +60,10 @@ returns : tie.Need-returns
 returns c =
     let a = c .before .before .before .before .before .before .before .before .before .before .before .before .before .before .before .args in
     let p = c .before .before .before .before .before .before .before .before .before .before .before .before .before .before .before .pre in
-    let stop = c .before .before .before .before .before .length in record {
-      count = stop .ensures ∙ sym (event-length (a .e) (a .id) (now (a .frame)) (a .l));
-      left = event-laid (a .e) (a .id) (now (a .frame)) (a .l) (now (a .space)) (c .before .before .before .before .before .before .before .before .before .before .head .last .1 .1 .0) _ (stop .result) (c .before .before .before .before .before .before .before .span-of .result)
+    let stop = c .before .before .before .before .before .length in
+    λ second. record {
+      count = stop .ensures ∙ sym (event-length (a .e) (a .id) second (now (a .frame)) (a .l));
+      left = event-laid (a .e) (a .id) second (now (a .frame)) (a .l) (now (a .space)) (c .before .before .before .before .before .before .before .before .before .before .head .last .1 .1 .0) _ (stop .result) (c .before .before .before .before .before .before .before .span-of .result)
           (p .0)
           (p .1 .1)
           (rw (← c .before .before .before .before .before .before .before .before .before .before .before .before .number .ensures) (c .before .before .before .before .before .before .before .before .before .before .head .ensures))

@@ -43,15 +43,32 @@ returns-4 c =
     (cond-goes _ (b .before .within642 .ensures) (b .if2 .left)
     (cond-goes _ (d .before .within16 .ensures) (d .if3 .left) (cond-stops _ (c .before .within8 .ensures) (c .if4 .taken))))
 
+within8-requires-2 : tie.Need-within8-requires-2
+within8-requires-2 c κs = search needs
+
 returns-5 : tie.Need-returns-5
 returns-5 c =
-    let d = c .before .before in
+    let f = c .before .before in
+    let d = f .before .before in
     let b = d .before .before in
     let a = b .before .before in
     cond-goes _ (a .before .within64 .ensures) (a .if1 .left)
     (cond-goes _ (b .before .within642 .ensures) (b .if2 .left)
     (cond-goes _ (d .before .within16 .ensures) (d .if3 .left)
-    (cond-goes _ (c .before .within8 .ensures) (c .if4 .left) (cond-skips _ (any-good (of16 (a .before .before .args .s .ether))) refl))))
+    (cond-goes _ (f .before .within8 .ensures) (f .if4 .left)
+    (cond-skips _ (any-good (of16 (a .before .before .args .s .ether))) (cond-stops _ (c .before .within82 .ensures) (c .if5 .taken))))))
+
+returns-6 : tie.Need-returns-6
+returns-6 c =
+    let f = c .before .before in
+    let d = f .before .before in
+    let b = d .before .before in
+    let a = b .before .before in
+    cond-goes _ (a .before .within64 .ensures) (a .if1 .left)
+    (cond-goes _ (b .before .within642 .ensures) (b .if2 .left)
+    (cond-goes _ (d .before .within16 .ensures) (d .if3 .left)
+    (cond-goes _ (f .before .within8 .ensures) (f .if4 .left)
+    (cond-skips _ (any-good (of16 (a .before .before .args .s .ether))) (cond-goes _ (c .before .within82 .ensures) (c .if5 .left) refl)))))
 
 pub link-fault-spec : {M : Type 1} → statement M
 link-fault-spec =
@@ -65,4 +82,6 @@ link-fault-spec =
     returns-3
     within8-requires
     returns-4
-    returns-5)
+    within8-requires-2
+    returns-5
+    returns-6)

@@ -26,13 +26,13 @@ ipv6-quad-requires : tie.Need-ipv6-quad-requires
 ipv6-quad-requires c κs = search needs
 
 returns : tie.Need-returns
-returns c = search needs
+returns c = c .no-quad .ensures ∙ sym (ap (λ (x : Ip). quadOf (c .before .before .before .args .second) x (c .before .before .before .args .ports)) (c .before .enum-told .given .1))
 
 returns-2 : tie.Need-returns-2
-returns-2 c = c .ipv4-quad .ensures ∙ sym (ap (λ (x : Ip). quadOf x (c .before .before .before .before .args .ports)) (c .before .before .ip .given .1))
+returns-2 c = c .ipv4-quad .ensures ∙ sym (ap (λ (x : Ip). quadOf (c .before .before .before .before .args .second) x (c .before .before .before .before .args .ports)) (c .before .before .ip .given .1))
 
 returns-3 : tie.Need-returns-3
-returns-3 c = c .ipv6-quad .ensures ∙ sym (ap (λ (x : Ip). quadOf x (c .before .before .before .before .args .ports)) (c .before .before .ip2 .given .1))
+returns-3 c = c .ipv6-quad .ensures ∙ sym (ap (λ (x : Ip). quadOf (c .before .before .before .before .args .second) x (c .before .before .before .before .args .ports)) (c .before .before .ip2 .given .1))
 
 pub quad-of-spec : {M : Type 1} → statement M
 quad-of-spec =

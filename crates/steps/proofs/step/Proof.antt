@@ -26,7 +26,7 @@ decide-requires c κs =
     (state-small t _ (p .table) (p .records), (good-count t (p .table), shows-inside _ _ (p .shows)))
 
 -- who decides, and who fits best
-who : (c : tie.After-decide) → c .decide .result .decider ≡ deciderOf (tableIn (now (c .before .before .before .before .before .args .t))) (getD (now (c .before .before .before .before .before .args .head)) 1 0) (seen (now (c .before .before .before .before .before .args .frame)) (c .before .before .before .before .before .args .l))
+who : (c : tie.After-decide) → c .decide .result .decider ≡ deciderOf (tableIn (now (c .before .before .before .before .before .args .t))) (getD (now (c .before .before .before .before .before .args .head)) 1 0) (seen (c .before .before .before .before .before .args .second) (now (c .before .before .before .before .before .args .frame)) (c .before .before .before .before .before .args .l))
 who c = ap (λ (x : Decision). x .decider) (c .decide .ensures)
 
 tick-requires : tie.Need-tick-requires
@@ -67,7 +67,7 @@ returns c =
     let d = c .before .before .before .before .before .before .before .before .before .before .before .before .before .before .before .before .before .before in
     let a = d .before .before .before .before .before .args in
     let says = c .before .before .before .before .before .before .before .before .before .act .ensures in
-    step-is (tableIn (now (a .t))) (a .reading) (seen (now (a .frame)) (a .l)) _ _ _ _ _ _ _ _ _ (who d) (d .before .turn .ensures) (c .before .before .before .before .before .before .before .before .before .before .before .before .before .tick .ensures) (says .0) (says .1) refl (c .before .before .before .before .before .shape .ensures) (c .id-at .ensures)
+    step-is (tableIn (now (a .t))) (a .reading) (seen (a .second) (now (a .frame)) (a .l)) _ _ _ _ _ _ _ _ _ (who d) (d .before .turn .ensures) (c .before .before .before .before .before .before .before .before .before .before .before .before .before .tick .ensures) (says .0) (says .1) refl (c .before .before .before .before .before .shape .ensures) (c .id-at .ensures)
     (c .before .before .before .write-event .ensures)
 
 pub step-spec : {M : Type 1} → statement M

@@ -1,5 +1,7 @@
 -- `steps::turn` meets its contract: by the cases of the transport.
 -- Assumes nothing.
+use mathlib.Core.Path.{sym, ap, _∙_}
+use Rattle.steps.specs.Steps.{turnIn}
 use Rattle.steps.proofs.Laws.{turn-tcp}
 use borrow.Author.Needs.{needs}
 use Rattle.steps.proofs.turn.Statement.{statement}
@@ -39,14 +41,14 @@ flag-kind-requires : tie.Need-flag-kind-requires
 flag-kind-requires c κs = search needs
 
 returns : tie.Need-returns
-returns c = search needs
+returns c = c .no-turn .ensures ∙ sym (ap (turnIn (c .before .before .before .args .second) (c .before .before .before .args .ip)) (c .before .enum-told .given .1))
 
 returns-2 : tie.Need-returns-2
-returns-2 c = search needs
+returns-2 c = c .no-turn2 .ensures ∙ sym (ap (turnIn (c .before .before .before .args .second) (c .before .before .before .args .ip)) (c .before .enum-told2 .given .1))
 
 returns-3 : tie.Need-returns-3
 returns-3 c =
-    turn-tcp _ _ _ _ _ _ (c .before .before .before .before .before .t .given .1) (c .before .before .before .wide32 .ensures .0) (c .before .before .wide322 .ensures .0)
+    turn-tcp _ _ _ _ _ _ _ (c .before .before .before .before .before .t .given .1) (c .before .before .before .wide32 .ensures .0) (c .before .before .wide322 .ensures .0)
     (c .flag-kind .ensures) _ (c .before .quad-of .ensures)
 
 pub turn-spec : {M : Type 1} → statement M

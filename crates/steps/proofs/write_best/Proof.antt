@@ -44,9 +44,9 @@ returns c =
     let p = m .before .before .before .before .before .before .before .pre in
     let r = rule-at (now (a .t)) (a .best .place) (m .before .before .if1 .taken) in
     wrote _ _ _ _ _
-    (best-rule (tableIn (now (a .t))) (a .state) (seen (now (a .frame)) (a .l)) (a .best) (m .mismatch .result) (c .before .before .before .before .id .result) (p .1 .0) (m .before .before .if1 .taken)
+    (best-rule (tableIn (now (a .t))) (a .state) (seen (a .second) (now (a .frame)) (a .l)) (a .best) (m .mismatch .result) (c .before .before .before .before .id .result) (p .1 .0) (m .before .before .if1 .taken)
     (m .mismatch .ensures ∙ ap (λ (x : Rule). mismatchOf x (a .best .layer)) (sym r)) (c .before .before .before .before .id .ensures ∙ ap (λ (x : Rule). x .id) (sym r)))
-    (c .before .before .write .ensures)
+    (c .before .before .write .ensures (a .second))
 
 write-requires-2 : tie.Need-write-requires-2
 write-requires-2 c κs = search needs
@@ -58,7 +58,7 @@ returns-2 : tie.Need-returns-2
 returns-2 c =
     let a = c .before .before .before .before .before .before .before .before .before .args in
     let p = c .before .before .before .before .before .before .before .before .before .pre in
-    wrote _ _ _ _ _ (best-link (tableIn (now (a .t))) (a .state) (seen (now (a .frame)) (a .l)) (a .best) (p .1 .0) (p .0) (c .before .before .before .before .if1 .left)) (c .before .before .write2 .ensures)
+    wrote _ _ _ _ _ (best-link (tableIn (now (a .t))) (a .state) (seen (a .second) (now (a .frame)) (a .l)) (a .best) (p .1 .0) (p .0) (c .before .before .before .before .if1 .left)) (c .before .before .write2 .ensures (a .second))
 
 pub write-best-spec : {M : Type 1} → statement M
 write-best-spec =

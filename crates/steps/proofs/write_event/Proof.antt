@@ -30,7 +30,7 @@ write-best-requires c κs = search needs
 returns : tie.Need-returns
 returns c =
     let a = c .before .before .before .before .before .args in
-    wrote-none _ _ (event-none (tableIn (now (a .t))) (a .state) (seen (now (a .frame)) (a .l)) (a .d) (a .v .number) _ (c .before .before .event-for .ensures) (c .enum-told .given .1))
+    wrote-none _ _ (event-none (tableIn (now (a .t))) (a .state) (seen (a .second) (now (a .frame)) (a .l)) (a .d) (a .v .number) _ (c .before .before .event-for .ensures) (c .enum-told .given .1))
 
 same-length : tie.Need-same-length
 same-length c = search needs
@@ -39,8 +39,8 @@ returns-2 : tie.Need-returns-2
 returns-2 c =
     let a = c .before .before .before .before .before .before .before .before .before .before .before .args in
     wrote _ _ _ _ _
-    (event-own (tableIn (now (a .t))) (a .state) (seen (now (a .frame)) (a .l)) (a .d) (a .v .number) _ (c .before .before .before .before .before .before .before .before .event-for .ensures) _ _ (c .before .before .before .before .before .before .report .given .1) (c .before .before .before .before .id-at .ensures))
-    (c .before .before .write .ensures)
+    (event-own (tableIn (now (a .t))) (a .state) (seen (a .second) (now (a .frame)) (a .l)) (a .d) (a .v .number) _ (c .before .before .before .before .before .before .before .before .event-for .ensures) _ _ (c .before .before .before .before .before .before .report .given .1) (c .before .before .before .before .id-at .ensures))
+    (c .before .before .write .ensures (a .second))
 
 same-length-2 : tie.Need-same-length-2
 same-length-2 c = search needs
@@ -48,7 +48,7 @@ same-length-2 c = search needs
 returns-3 : tie.Need-returns-3
 returns-3 c =
     let a = c .before .before .before .before .before .before .before .before .before .args in
-    wrote _ _ _ _ _ (event-best (tableIn (now (a .t))) (a .state) (seen (now (a .frame)) (a .l)) (a .d) (a .v .number) _ (c .before .before .before .before .before .before .event-for .ensures) (c .before .before .before .before .enum-told2 .given .1)) (c .before .before .write-best .ensures)
+    wrote _ _ _ _ _ (event-best (tableIn (now (a .t))) (a .state) (seen (a .second) (now (a .frame)) (a .l)) (a .d) (a .v .number) _ (c .before .before .before .before .before .before .event-for .ensures) (c .before .before .before .before .enum-told2 .given .1)) (c .before .before .write-best .ensures)
 
 pub write-event-spec : {M : Type 1} → statement M
 write-event-spec =

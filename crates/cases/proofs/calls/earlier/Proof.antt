@@ -3,11 +3,11 @@ use Rattle.cases.proofs.calls.earlier.Statement.{statement}
 use Rattle.cases.proofs.calls.earlier.Tie as tie
 
 abbrev Inv-loop : tie.InvT-loop
-Inv-loop t image room length times step head₀ counts₀ places₀ bytes end reading₀ left₀ head counts places reading left =
+Inv-loop t m image room length head₀ counts₀ places₀ bytes end reading₀ left₀ head counts places reading left =
     Unit {0}
 
 abbrev μ-loop : tie.MeasureT-loop
-μ-loop t image room length times step head₀ counts₀ places₀ bytes end reading₀ left₀ head counts places reading left =
+μ-loop t m image room length head₀ counts₀ places₀ bytes end reading₀ left₀ head counts places reading left =
     left
 
 add-end : tie.Need-add-end Inv-loop μ-loop

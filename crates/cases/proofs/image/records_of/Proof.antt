@@ -27,26 +27,14 @@ mul-at c = search needs
 add-at : tie.Need-add-at Inv-loop μ-loop
 add-at c = search needs
 
-read32-requires-2 : tie.Need-read32-requires-2 Inv-loop μ-loop
-read32-requires-2 c κs = search needs
+counts-at-requires : tie.Need-counts-at-requires Inv-loop μ-loop
+counts-at-requires c κs = search needs
 
-add-read32 : tie.Need-add-read32 Inv-loop μ-loop
-add-read32 c = search needs
+mul-t16 : tie.Need-mul-t16 Inv-loop μ-loop
+mul-t16 c = search needs
 
-read32-requires-3 : tie.Need-read32-requires-3 Inv-loop μ-loop
-read32-requires-3 c κs = search needs
-
-add-read32-2 : tie.Need-add-read32-2 Inv-loop μ-loop
-add-read32-2 c = search needs
-
-read32-requires-4 : tie.Need-read32-requires-4 Inv-loop μ-loop
-read32-requires-4 c κs = search needs
-
-mul-row : tie.Need-mul-row Inv-loop μ-loop
-mul-row c = search needs
-
-element-set-from-row : tie.Need-element-set-from-row Inv-loop μ-loop
-element-set-from-row c = search needs
+element-set-from-counts : tie.Need-element-set-from-counts Inv-loop μ-loop
+element-set-from-counts c = search needs
 
 mul-held : tie.Need-mul-held Inv-loop μ-loop
 mul-held c = search needs
@@ -66,14 +54,14 @@ loop-less c = search needs
 loop-again : tie.Need-loop-again Inv-loop μ-loop
 loop-again c = search needs
 
-read32-requires-5 : tie.Need-read32-requires-5 Inv-loop μ-loop
-read32-requires-5 c κs = search needs
+read32-requires-2 : tie.Need-read32-requires-2 Inv-loop μ-loop
+read32-requires-2 c κs = search needs
 
-read32-requires-6 : tie.Need-read32-requires-6 Inv-loop μ-loop
-read32-requires-6 c κs = search needs
+read32-requires-3 : tie.Need-read32-requires-3 Inv-loop μ-loop
+read32-requires-3 c κs = search needs
 
-element-set-from-row-2 : tie.Need-element-set-from-row-2 Inv-loop μ-loop
-element-set-from-row-2 c = search needs
+element-set-from-row : tie.Need-element-set-from-row Inv-loop μ-loop
+element-set-from-row c = search needs
 
 returns : tie.Need-returns Inv-loop μ-loop
 returns c = search needs
@@ -90,20 +78,16 @@ records-of-spec =
     loop-holds
     mul-at
     add-at
-    read32-requires-2
-    add-read32
-    read32-requires-3
-    add-read32-2
-    read32-requires-4
-    mul-row
-    element-set-from-row
+    counts-at-requires
+    mul-t16
+    element-set-from-counts
     mul-held
     index-1-held
     held-requires
     add-k
     loop-less
     loop-again
-    read32-requires-5
-    read32-requires-6
-    element-set-from-row-2
+    read32-requires-2
+    read32-requires-3
+    element-set-from-row
     returns)

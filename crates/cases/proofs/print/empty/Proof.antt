@@ -33,14 +33,17 @@ loop-less c = search needs
 loop-again : tie.Need-loop-again Inv-loop μ-loop
 loop-again c = search needs
 
+element-copy-out-drained : tie.Need-element-copy-out-drained Inv-loop μ-loop
+element-copy-out-drained c = search needs
+
+element-copy-out-drained-2 : tie.Need-element-copy-out-drained-2 Inv-loop μ-loop
+element-copy-out-drained-2 c = search needs
+
 element-copy-out-result : tie.Need-element-copy-out-result Inv-loop μ-loop
 element-copy-out-result c = search needs
 
 element-copy-out-result-2 : tie.Need-element-copy-out-result-2 Inv-loop μ-loop
 element-copy-out-result-2 c = search needs
-
-element-copy-out-result-3 : tie.Need-element-copy-out-result-3 Inv-loop μ-loop
-element-copy-out-result-3 c = search needs
 
 returns-2 : tie.Need-returns-2 Inv-loop μ-loop
 returns-2 c = search needs
@@ -59,7 +62,8 @@ empty-spec =
     add-j
     loop-less
     loop-again
+    element-copy-out-drained
+    element-copy-out-drained-2
     element-copy-out-result
     element-copy-out-result-2
-    element-copy-out-result-3
     returns-2)

@@ -10,8 +10,13 @@ use Rattle.matching.proofs.rules.layers_matched.Statement.{statement}
 use Rattle.matching.proofs.rules.layers_matched.Tie as tie
 
 -- a layer is tested with the settings that the rule's words say
-link-told : (c : tie.After-link-matches) → c .link-matches .result ≡ linkMatches (linkIn (c .before .before .before .args .r .now)) (c .before .before .before .args .l .link)
-link-told c = c .link-matches .ensures ∙ ap (λ (x : LinkSettings). linkMatches x (c .before .before .before .args .l .link)) (c .before .link .ensures)
+link-told :
+    (c : tie.After-link-matches)
+    → c .link-matches .result
+    ≡ linkMatches (linkIn (c .before .before .before .args .r .now)) (c .before .before .before .args .second) (c .before .before .before .args .l .link)
+link-told c =
+    c .link-matches .ensures
+    ∙ ap (λ (x : LinkSettings). linkMatches x (c .before .before .before .args .second) (c .before .before .before .args .l .link)) (c .before .link .ensures)
 
 ip-told :
     (c : tie.After-ip-matches)
@@ -49,8 +54,7 @@ ip-matches-requires c κs = search needs
 returns-2 : tie.Need-returns-2
 unfolding layerTests
 returns-2 c =
-    let a = c .before .before in
-    count-goes (link-told (a .before)) (a .if1 .left) (cond-stops _ (ip-told (c .before)) (c .if2 .taken))
+    count-goes (link-told (c .before .before .before)) (c .before .before .if1 .left) (cond-stops _ (ip-told (c .before)) (c .if2 .taken))
 
 transport-requires : tie.Need-transport-requires
 transport-requires c κs = search needs

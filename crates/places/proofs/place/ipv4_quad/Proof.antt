@@ -13,7 +13,8 @@ wide128-requires-2 c κs = search needs
 
 returns : tie.Need-returns
 returns c =
-    λ i. record { ipv6 = false; source = c .before .wide128 .ensures i; destination = c .wide1282 .ensures i; ports = c .before .before .args .ports }
+    let a = c .before .before .args in
+    λ i. record { second = a .second; ipv6 = false; source = c .before .wide128 .ensures i; destination = c .wide1282 .ensures i; ports = a .ports }
 
 pub ipv4-quad-spec : {M : Type 1} → statement M
 ipv4-quad-spec = tie.close (tie.spec wide128-requires wide128-requires-2 returns)

@@ -30,13 +30,13 @@ same-address-requires-2 c κs = search needs
 
 returns-2 : tie.Need-returns-2
 returns-2 c =
-    let s = c .before .before .before .same-address .ensures in
-    let d = c .same-address2 .ensures in
-    let a = c .before .before .before .before .before .source .ensures in
-    let b = c .before .before .before .before .source2 .ensures in
-    let x = c .before .before .destination .ensures in
-    let y = c .before .destination2 .ensures in
-    ports-same _ _ _ _ (c .before .before .before .before .before .before .if1 .left) (s ∙ ap₂ sameAddress a b) (d ∙ ap₂ sameAddress x y)
+    let s = c .before .before .before .before .before .same-address .ensures in
+    let d = c .before .before .same-address2 .ensures in
+    let a = c .before .before .before .before .before .before .before .source .ensures in
+    let b = c .before .before .before .before .before .before .source2 .ensures in
+    let x = c .before .before .before .before .destination .ensures in
+    let y = c .before .before .before .destination2 .ensures in
+    ports-same _ _ _ _ (c .before .before .before .before .before .before .before .before .if1 .left) (s ∙ ap₂ sameAddress a b) (d ∙ ap₂ sameAddress x y)
 
 pub same-quad-spec : {M : Type 1} → statement M
 same-quad-spec =

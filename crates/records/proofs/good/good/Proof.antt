@@ -24,18 +24,15 @@ element-copy-out-result c = search needs
 good-rules-requires : tie.Need-good-rules-requires
 good-rules-requires c κs = search needs
 
-index-1-good-level : tie.Need-index-1-good-level
-index-1-good-level c = search needs
+index-1-good-levels : tie.Need-index-1-good-levels
+index-1-good-levels c = search needs
 
-index-2-good-level : tie.Need-index-2-good-level
-index-2-good-level c = search needs
-
-good-level-requires : tie.Need-good-level-requires
-good-level-requires c κs = search needs
+good-levels-requires : tie.Need-good-levels-requires
+good-levels-requires c κs = search needs
 
 returns : tie.Need-returns
 returns c = let a = c .before .before .before .before .before .before .before .before .before .before .args in
-    all-is (tableIn (a .t .now)) (a .head .now) (a .counts .now) (a .places .now) _ _ _ (rules-64 (a .t .now) (c .before .before .before .before .before .tell-table .ensures)) (c .before .before .before .before .before .before .before .tell-rows .ensures .0) (c .before .before .before .before .before .before .before .tell-rows .ensures .1) (ap (ltb (getD (a .head .now) 1 0)) (c .before .before .before .before .statecount .ensures)) (c .before .before .good-rules .ensures) (c .good-level .ensures)
+    all-is (tableIn (a .t .now)) (a .head .now) (a .counts .now) (a .places .now) _ _ _ (rules-64 (a .t .now) (c .before .before .before .before .before .tell-table .ensures)) (c .before .before .before .before .before .before .before .tell-rows .ensures .0) (c .before .before .before .before .before .before .before .tell-rows .ensures .1) (ap (ltb (getD (a .head .now) 1 0)) (c .before .before .before .before .statecount .ensures)) (c .before .before .good-rules .ensures) (c .good-levels .ensures)
 
 pub good-spec : {M : Type 1} → statement M
 good-spec =
@@ -46,7 +43,6 @@ good-spec =
     statecount-requires
     element-copy-out-result
     good-rules-requires
-    index-1-good-level
-    index-2-good-level
-    good-level-requires
+    index-1-good-levels
+    good-levels-requires
     returns)

@@ -4,13 +4,18 @@ use Prim.Native.Nat.{_≤_, _-_}
 use mathlib.Core.Path.{_≡_, sym, ap, _∙_}
 use mathlib.Core.List.{[]}
 use mathlib.Core.Bool.{false, _||_}
+use lib.Bits.{bitOr}
 use lib.ListN.{getD}
 use lib.Dec.{ltb, eqb}
 use borrow.Author.Tests.{lt-ltb, le-ltb}
 use Rattle.numbers.specs.Lists.{allBelow}
 use Rattle.numbers.proofs.Lists.{below-all}
 use Rattle.numbers.proofs.Tests.{or-first, or-zero, below-more}
+use Rattle.table.specs.declared.Bucket.the-variants as bucket
+use Rattle.verdicts.specs.Record.{ruleOf}
+use Rattle.verdicts.specs.Good.{levelsGood}
 use Rattle.records.specs.Good.{levelFrom}
+use Rattle.records.proofs.GoodCode.{no-levels-is}
 use borrow.Author.Needs.{needs}
 use native.Mathlib.Omega.{arith}
 use Rattle.records.proofs.good.no_levels.Statement.{statement}
@@ -40,6 +45,15 @@ index-1-any c = search needs
 index-2-any : tie.Need-index-2-any Inv-loop μ-loop
 index-2-any c = search needs
 
+mul-any-2 : tie.Need-mul-any-2 Inv-loop μ-loop
+mul-any-2 c = search needs
+
+index-1-any-2 : tie.Need-index-1-any-2 Inv-loop μ-loop
+index-1-any-2 c = search needs
+
+index-2-any-2 : tie.Need-index-2-any-2 Inv-loop μ-loop
+index-2-any-2 c = search needs
+
 add-i : tie.Need-add-i Inv-loop μ-loop
 add-i c = search needs
 
@@ -48,11 +62,13 @@ loop-less c = search needs
 
 loop-again : tie.Need-loop-again Inv-loop μ-loop
 loop-again c =
-    let a = c .before .before .before .before .before .args in
-    let l = c .before .before .loop in
+    let a = c .before .before .before .before .before .before .args in
+    let l = c .before .before .before .loop in
     let beyond : ltb (l .i) (a .from) ≡ false = le-ltb (l .i) (a .from) (l .inv .1) in
-    let level = getD (getD (a .counts .now) (l .i) []) 0 0 in
-    (omega arith, omega arith, or-zero (l .any) level ∙ below-more (levelFrom (a .from) (a .counts .now)) (l .i) _ _ (l .inv .2) (ap (λ b. b || eqb level 0) (sym beyond)))
+    let row = getD (a .counts .now) (l .i) [] in
+    let l0 = getD row 0 0 in
+    let l1 = getD row 1 0 in
+    (omega arith, omega arith, or-zero (l .any) (bitOr l0 l1) ∙ below-more (levelFrom (a .from) (a .counts .now)) (l .i) _ _ (l .inv .2) (or-zero l0 l1 ∙ no-levels-is row ∙ ap (λ b. b || levelsGood bucket.Unset (ruleOf row [])) (sym beyond)))
 
 returns : tie.Need-returns Inv-loop μ-loop
 returns c =
@@ -72,6 +88,9 @@ no-levels-spec =
     mul-any
     index-1-any
     index-2-any
+    mul-any-2
+    index-1-any-2
+    index-2-any-2
     add-i
     loop-less
     loop-again

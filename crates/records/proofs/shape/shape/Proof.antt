@@ -15,7 +15,7 @@ use Rattle.records.proofs.shape.shape.Tie as tie
 returns : tie.Need-returns
 returns c = record {
   head = c .good .0 .1 .0 .1;
-  counts = sized-tells (Array (UInt w32) 3) (λ (k : List ℕ). length k ≡ 3) (λ x vs s. s .1 .0 .1) 65 (c .args .counts) _ (c .good .1 .0);
+  counts = sized-tells (Array (UInt w32) 4) (λ (k : List ℕ). length k ≡ 4) (λ x vs s. s .1 .0 .1) 65 (c .args .counts) _ (c .good .1 .0);
   places =
       sized-tells (Array (Array (UInt w64) 6) 8) ShapedPlaces
       (λ x vs s. sized-tells (Array (UInt w64) 6) ShapedPlace (λ x vs s. s .1 .0 .1) 8 x vs s) 64 (c .args .places) _ (c .good .1 .1 .0);

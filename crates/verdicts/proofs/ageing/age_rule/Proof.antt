@@ -1,13 +1,12 @@
 -- `records::time::age_rule` meets its contract.
 -- Assumes nothing.
 use mathlib.Core.Path.{sym, ap, _∙_}
-use lib.ListN.{getD, set}
 use Rattle.table.specs.declared.Bucket.{Bucket}
 use Rattle.table.specs.declared.Tracking.{Tracking}
 use Rattle.table.specs.Words.{ruleIn}
 use Rattle.places.specs.Places.{placesOf}
 use Rattle.places.specs.Ageing.{agedPlaces}
-use Rattle.verdicts.specs.Rule.{drained}
+use Rattle.verdicts.specs.Rule.{drainedRow}
 use Rattle.verdicts.proofs.AgeLaws.{rule-aged}
 use borrow.Author.Needs.{needs}
 use Rattle.verdicts.proofs.ageing.age_rule.Statement.{statement}
@@ -22,8 +21,8 @@ tracking-requires c κs = search needs
 tell-counts-requires : tie.Need-tell-counts-requires
 tell-counts-requires c κs = search needs
 
-age-level-requires : tie.Need-age-level-requires
-age-level-requires c κs = search needs
+age-levels-requires : tie.Need-age-levels-requires
+age-levels-requires c κs = search needs
 
 enum-told : tie.Need-enum-told
 enum-told c = search needs
@@ -37,13 +36,13 @@ age-places-requires c κs = search needs
 returns : tie.Need-returns
 returns c = let a = c .before .before .before .before .before .before .before .before .args in
     rule-aged (a .elapsed) (ruleIn (a .r .now)) (a .c .now) _ (a .ps .now) (a .ps .now) (c .before .before .before .before .tell-counts .ensures)
-    (c .before .before .age-level .ensures ∙ ap (λ (k : Bucket). set (a .c .now) 0 (drained k (a .elapsed) (getD (a .c .now) 0 0))) (c .before .before .before .before .before .before .before .bucket .ensures))
+    (c .before .before .age-levels .ensures ∙ ap (λ (k : Bucket). drainedRow k (a .elapsed) (a .c .now)) (c .before .before .before .before .before .before .before .bucket .ensures))
     (ap (λ (k : Tracking). agedPlaces k (a .elapsed) (placesOf (a .ps .now))) (sym (c .enum-told .given .1) ∙ c .before .before .before .before .before .before .tracking .ensures))
 
 returns-2 : tie.Need-returns-2
 returns-2 c = let a = c .before .before .before .before .before .before .before .before .before .before .before .args in
     rule-aged (a .elapsed) (ruleIn (a .r .now)) (a .c .now) _ (a .ps .now) (c .age-places .last .1 .1 .0) (c .before .before .before .before .before .before .before .tell-counts .ensures)
-    (c .before .before .before .before .before .age-level .ensures ∙ ap (λ (k : Bucket). set (a .c .now) 0 (drained k (a .elapsed) (getD (a .c .now) 0 0))) (c .before .before .before .before .before .before .before .before .before .before .bucket .ensures))
+    (c .before .before .before .before .before .age-levels .ensures ∙ ap (λ (k : Bucket). drainedRow k (a .elapsed) (a .c .now)) (c .before .before .before .before .before .before .before .before .before .before .bucket .ensures))
     (c .age-places .ensures ∙ ap (λ (k : Tracking). agedPlaces k (a .elapsed) (placesOf (a .ps .now))) (sym (c .before .before .before .k .given .1) ∙ c .before .before .before .before .before .before .before .before .before .tracking .ensures))
 
 pub age-rule-spec : {M : Type 1} → statement M
@@ -53,7 +52,7 @@ age-rule-spec =
     bucket-requires
     tracking-requires
     tell-counts-requires
-    age-level-requires
+    age-levels-requires
     enum-told
     enum-known-k
     age-places-requires

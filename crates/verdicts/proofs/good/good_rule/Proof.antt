@@ -14,11 +14,8 @@ bucket-requires c κs = search needs
 tracking-requires : tie.Need-tracking-requires
 tracking-requires c κs = search needs
 
-element-copy-out-good-level : tie.Need-element-copy-out-good-level
-element-copy-out-good-level c = search needs
-
-good-level-requires : tie.Need-good-level-requires
-good-level-requires c κs = search needs
+good-levels-requires : tie.Need-good-levels-requires
+good-levels-requires c κs = search needs
 
 enum-told : tie.Need-enum-told
 enum-told c = search needs
@@ -33,16 +30,16 @@ good-room-requires : tie.Need-good-room-requires
 good-room-requires c κs = search needs
 
 returns : tie.Need-returns
-returns c = let a = c .before .before .before .before .before .before .before .before .args in
-    rule-yes (ruleIn (a .r .now)) (ruleOf (a .c .now) (a .ps .now)) _ _ (c .before .before .before .before .before .before .before .bucket .ensures) (c .before .before .before .before .good-level .ensures) _ _ (c .before .before .before .if1 .taken) (sym (c .before .enum-told .given .1) ∙ c .before .before .before .before .before .before .tracking .ensures) (c .good-empty .ensures)
+returns c = let a = c .before .before .before .before .before .before .before .args in
+    rule-yes (ruleIn (a .r .now)) (ruleOf (a .c .now) (a .ps .now)) _ _ (c .before .before .before .before .before .before .bucket .ensures) (c .before .before .before .before .good-levels .ensures) _ _ (c .before .before .before .if1 .taken) (sym (c .before .enum-told .given .1) ∙ c .before .before .before .before .before .tracking .ensures) (c .good-empty .ensures)
 
 returns-2 : tie.Need-returns-2
-returns-2 c = let a = c .before .before .before .before .before .before .before .before .before .args in
-    rule-yes (ruleIn (a .r .now)) (ruleOf (a .c .now) (a .ps .now)) _ _ (c .before .before .before .before .before .before .before .before .bucket .ensures) (c .before .before .before .before .before .good-level .ensures) _ _ (c .before .before .before .before .if1 .taken) (sym (c .before .before .k .given .1) ∙ c .before .before .before .before .before .before .before .tracking .ensures) (c .good-room .ensures)
+returns-2 c = let a = c .before .before .before .before .before .before .before .before .args in
+    rule-yes (ruleIn (a .r .now)) (ruleOf (a .c .now) (a .ps .now)) _ _ (c .before .before .before .before .before .before .before .bucket .ensures) (c .before .before .before .before .before .good-levels .ensures) _ _ (c .before .before .before .before .if1 .taken) (sym (c .before .before .k .given .1) ∙ c .before .before .before .before .before .before .tracking .ensures) (c .good-room .ensures)
 
 returns-3 : tie.Need-returns-3
-returns-3 c = let a = c .before .before .before .before .before .args in
-    rule-no (ruleIn (a .r .now)) (ruleOf (a .c .now) (a .ps .now)) _ _ (c .before .before .before .before .bucket .ensures) (c .before .good-level .ensures) (c .if1 .left)
+returns-3 c = let a = c .before .before .before .before .args in
+    rule-no (ruleIn (a .r .now)) (ruleOf (a .c .now) (a .ps .now)) _ _ (c .before .before .before .bucket .ensures) (c .before .good-levels .ensures) (c .if1 .left)
 
 pub good-rule-spec : {M : Type 1} → statement M
 good-rule-spec =
@@ -50,8 +47,7 @@ good-rule-spec =
     (tie.spec
     bucket-requires
     tracking-requires
-    element-copy-out-good-level
-    good-level-requires
+    good-levels-requires
     enum-told
     good-empty-requires
     enum-known-k

@@ -1,4 +1,4 @@
--- `records::rate::settle` meets its contract.
+-- `verdicts::rate::settle` meets its contract.
 -- Assumes nothing.
 use mathlib.Core.Path.{ap, _∙_}
 use mathlib.Core.Bool.{Bool, not}
@@ -24,12 +24,19 @@ element-copy-out-count-2 c = search needs
 count-requires-2 : tie.Need-count-requires-2
 count-requires-2 c κs = search needs
 
+element-copy-out-t8 : tie.Need-element-copy-out-t8
+element-copy-out-t8 c = search needs
+
+element-copy-out-t16 : tie.Need-element-copy-out-t16
+element-copy-out-t16 c = search needs
+
 returns : tie.Need-returns
-returns c = let a = c .before .before .before .before .before .before .args in
-    let e = c .before .before .before .before .before .passes .ensures in
-    let p = c .before .before .before .count .ensures ∙ ap (λ (b : Bool). counted b (getD (a .c .now) 1 0)) e in
-    let q = c .before .count2 .ensures ∙ ap (λ (b : Bool). counted (not b) (getD (a .c .now) 2 0)) e in
-    λ i. a .level ∷ p i ∷ q i ∷ []
+returns c =
+    let a = c .before .before .before .before .before .before .before .before .args in
+    let e = c .before .before .before .before .before .before .before .passes .ensures in
+    let p = c .before .before .before .before .before .count .ensures ∙ ap (λ (b : Bool). counted b (getD (a .c .now) 2 0)) e in
+    let q = c .before .before .before .count2 .ensures ∙ ap (λ (b : Bool). counted (not b) (getD (a .c .now) 3 0)) e in
+    λ i. getD (a .c .now) 0 0 ∷ getD (a .c .now) 1 0 ∷ p i ∷ q i ∷ []
 
 pub settle-spec : {M : Type 1} → statement M
 settle-spec =
@@ -40,4 +47,6 @@ settle-spec =
     count-requires
     element-copy-out-count-2
     count-requires-2
+    element-copy-out-t8
+    element-copy-out-t16
     returns)

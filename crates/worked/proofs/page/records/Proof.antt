@@ -6,10 +6,10 @@ use Rattle.worked.proofs.page.records.Statement.{statement}
 use Rattle.worked.proofs.page.records.Tie as tie
 
 abbrev Inv-loop : tie.InvT-loop
-Inv-loop t counts places before gap₀ k₀ t7 gap k = Unit {0}
+Inv-loop t counts places socket before gap₀ k₀ t7 gap k = Unit {0}
 
 abbrev μ-loop : tie.MeasureT-loop
-μ-loop t counts places before gap₀ k₀ t7 gap k = 64 - k
+μ-loop t counts places socket before gap₀ k₀ t7 gap k = 64 - k
 
 loop-holds : tie.Need-loop-holds Inv-loop μ-loop
 loop-holds c = search needs

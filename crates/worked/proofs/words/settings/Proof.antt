@@ -9,7 +9,7 @@ abbrev Inv-loop : tie.InvT-loop
 Inv-loop all k₀ t5 t6 k = Unit {0}
 
 abbrev μ-loop : tie.MeasureT-loop
-μ-loop all k₀ t5 t6 k = 25 - k
+μ-loop all k₀ t5 t6 k = 28 - k
 
 slice-aggregate-text : tie.Need-slice-aggregate-text Inv-loop μ-loop
 slice-aggregate-text c = search needs
