@@ -16,7 +16,7 @@ pub enum Verdict {
     PassedByDefault = 1,
     Blocked = 2,
     OverRate = 3,
-    /// No place is free, or the socket is at its number, and the rule holds no Closing conversation of the socket.
+    /// No place is free, or the socket is at its number.
     NoFreePlace = 5,
     BlockedByDefault = 6,
     /// The four flags are no kind of segment, whether a conversation is held or not.

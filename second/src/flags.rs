@@ -71,20 +71,16 @@ fn cell(flags: u8, before: u8) -> String {
 fn judged(flags: u8, before: u8) -> (Verdict, u16, u8) {
     let mut records = Records::empty(0);
     if before != FREE {
-        hold(&mut records, 0, PORT, before, 0);
+        hold(&mut records, 0, PORT, before);
     }
     let (verdict, event) = judged_with(&table_t(), &mut records, flags);
     (verdict, event, records.held[PLACE][0])
 }
 
-fn hold(records: &mut Records, slot: usize, port: u16, state: u8, age: u32) {
-    records.hold(PLACE, slot, state, SOCKET, Conversation { quadruple: quadruple(port), age });
-}
-
-/// The conversation of the segments to a port.
-fn quadruple(port: u16) -> Quadruple {
+fn hold(records: &mut Records, slot: usize, port: u16, state: u8) {
     let addresses = Addresses::V4 { source: 0x0a00_0009, destination: 0x0a01_0001 };
-    Quadruple::new(addresses, 443, port)
+    let conversation = Conversation { quadruple: Quadruple::new(addresses, 443, port), age: 0 };
+    records.hold(PLACE, slot, state, SOCKET, conversation);
 }
 
 fn judged_with(table: &Table, records: &mut Records, flags: u8) -> (Verdict, u16) {
@@ -94,35 +90,25 @@ fn judged_with(table: &Table, records: &mut Records, flags: u8) -> (Verdict, u16
     (answer.verdict, u16::from_be_bytes([space[0], space[1]]))
 }
 
-/// An open segment while rule 20's two places are held by others in a state, the later ones older; or one of them, and that is all that
-/// its socket may hold. The verdict, the event's number, and the records after it.
-fn without_free_place(held: usize, state: u8) -> (Verdict, u16, Records) {
+/// An open segment while rule 20's two places are held by others; or one of them, and that is all that its socket may hold.
+fn without_place(held: usize) -> (u8, u16) {
     let (mut table, mut records) = (table_t(), Records::empty(0));
     table.rules[PLACE].numbers[usize::from(SOCKET)] = held as u8;
     for slot in 0..held {
-        hold(&mut records, slot, PORT + 1 + slot as u16, state, slot as u32);
+        hold(&mut records, slot, PORT + 1 + slot as u16, OPENING);
     }
     let (verdict, event) = judged_with(&table, &mut records, SYN);
-    (verdict, event, records)
-}
-
-/// Where others are Closing, the oldest, which is the last, is gone, and in its place the new one is Opening.
-fn oldest_gives_up(held: usize) -> bool {
-    let (verdict, _, after) = without_free_place(held, CLOSING);
-    let last = held - 1;
-    let others_stay = after.held[PLACE][..last].iter().all(|state| *state == CLOSING);
-    let stands = (after.held[PLACE][last], after.conversations[PLACE][last].quadruple);
-    verdict == Verdict::Passed && others_stay && stands == (OPENING, quadruple(PORT))
+    (verdict.number(), event)
 }
 
 /// The numbers below the table are those of judged segments: open ones that get no place, and one of each wrong step.
 fn legend() -> String {
-    let [(no_place, too_many), at_number] = [2, 1].map(|held| {
-        let (verdict, event, _) = without_free_place(held, OPENING);
-        (verdict.number(), event)
-    });
-    assert_eq!(at_number, (no_place, too_many), "one answer, whether no place is free or the socket is at its number");
-    assert!(oldest_gives_up(2) && oldest_gives_up(1), "and so for a place that is given up");
+    let (no_place, too_many) = without_place(2);
+    assert_eq!(
+        without_place(1),
+        (no_place, too_many),
+        "one answer, whether no place is free or the socket is at its number"
+    );
     let steps = [(0, RUNNING), (ACK, FREE), (SYN, RUNNING)].map(|(flags, before)| judged(flags, before));
     let [flags, conversation, state] = steps.map(|(verdict, _, _)| verdict.number());
     let events = steps.map(|(_, event, _)| event);
@@ -132,9 +118,8 @@ fn legend() -> String {
         "
 Meant is the rule that decides the segment, if it tracks; its action and its rate come first.
 A segment that is not blocked passes; its conversation, if it is held then, has age 0.
-is opened   held as Opening in the rule's first free place; if none is free or its socket is
-            at its number, in that of its socket's oldest Closing conversation, which is gone;
-            if it has none: blocked {no_place}, event {too_many}
+is opened   held as Opening in the rule's first free place;
+            if none is free or its socket is at its number: blocked {no_place}, event {too_many}
 is removed  held no longer, and its place is free
 blocked     {flags} wrong flags, {conversation} no such conversation, {state} not in this state: event {wrong_step},
             and the segment changes no conversation
@@ -145,7 +130,7 @@ The other flags of a segment make no difference.
 
 #[cfg(test)]
 mod tests {
-    use super::{legend, line, page};
+    use super::{line, page};
 
     #[test]
     fn a_line_for_each_setting() {
@@ -160,14 +145,14 @@ mod tests {
         }
     }
 
-    /// 01's table as 02 amends it (1/12, 7/12), by what the flags count as.
+    /// 01's table with 02's verdicts, by what the flags count as.
     #[test]
     fn cells_by_the_papers_table() {
         for setting in 0..16 {
             let line = line(setting);
             let cells: Vec<&str> = [28..40, 40..57, 57..74, 74..line.len()].map(|at| line[at].trim_end()).to_vec();
             let expected = match line[17..28].trim_end() {
-                "open" => ["is opened", "stays Opening", "blocked 42", "becomes Opening"],
+                "open" => ["is opened", "stays Opening", "blocked 42", "blocked 42"],
                 "carry" => ["blocked 41", "becomes Running", "stays Running", "stays Closing"],
                 "end" => ["blocked 41", "becomes Closing", "becomes Closing", "stays Closing"],
                 "reset" => ["blocked 41", "is removed", "is removed", "is removed"],
@@ -175,16 +160,6 @@ mod tests {
             };
             assert_eq!(cells, expected, "{setting}");
         }
-    }
-
-    #[test]
-    fn what_is_opened_without_a_free_place() {
-        let words = "
-is opened   held as Opening in the rule's first free place; if none is free or its socket is
-            at its number, in that of its socket's oldest Closing conversation, which is gone;
-            if it has none: blocked 5, event 61
-is removed";
-        assert!(legend().contains(words));
     }
 
     /// "Open: SYN without FIN or RST. Reset: RST without SYN or FIN. End: FIN and ACK without SYN or RST. Carry: ACK alone of the four."

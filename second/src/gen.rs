@@ -3,7 +3,6 @@
 mod bad;
 mod bundles;
 mod calls;
-mod closing;
 mod conversations;
 mod sockets;
 mod wishes;
@@ -35,7 +34,7 @@ const TAIL: u64 = 60;
 /// From this many judged calls on, everything named must be reached.
 pub const ENOUGH: u64 = 1_000;
 /// From this many on there is room for each single fault, and for the modem's table, which comes at every fourth; so do the
-/// dispatch's, from the second table on, and the terminal's and the renewal's, from the third.
+/// dispatch's, from the second table on, and the terminal's, from the third.
 const SOME: u64 = 500;
 /// A frame that is to show something may be refused for its event space, so that another must come.
 const TRIES: usize = 4;
@@ -58,8 +57,6 @@ pub struct Gen<W: Write> {
     bad_tables: Vec<BadTable>,
     table_fault: usize,
     record_fault: usize,
-    /// Those for which the tables so far gave no room.
-    without_room: Vec<&'static str>,
     /// Whether a table stands under which the records are bad.
     undercut: bool,
     /// How many of the odd lengths came, and which of the damages came last.
@@ -88,7 +85,6 @@ pub fn generate<W: Write>(seed: u64, calls: u64, output: W) -> io::Result<bool> 
         bad_tables,
         table_fault: 0,
         record_fault: 0,
-        without_room: vec![],
         undercut: false,
         odd: 0,
         damage: 0,
@@ -126,10 +122,7 @@ impl<W: Write> Gen<W> {
         match number % 4 {
             0 if self.calls >= SOME => self.modem()?,
             1 => self.dispatch()?,
-            2 => {
-                self.terminal()?;
-                self.renewal()?;
-            }
+            2 => self.terminal()?,
             _ => {}
         }
         let good = draw_table(number, &mut self.random);
@@ -139,12 +132,8 @@ impl<W: Write> Gen<W> {
         self.print()?;
         self.all_states()?;
         self.warm_up()?;
-        for fault in std::mem::take(&mut self.without_room) {
-            self.bad_records(fault, &good, tables)?;
-        }
         while self.record_fault < due(RECORD_FAULTS.len(), number, tables, 50, self.calls) {
-            self.record_fault += 1;
-            self.bad_records(RECORD_FAULTS[(self.record_fault - 1) % RECORD_FAULTS.len()], &good, tables)?;
+            self.bad_records(&good, tables)?;
         }
         if number == 0 || self.random.chance(15) {
             self.put_back(&good)?;
@@ -267,10 +256,8 @@ impl<W: Write> Gen<W> {
 
     fn any_switch(&mut self) -> io::Result<()> {
         let count = self.table.state_count;
-        // The first is to a state that there is not.
-        let missing = self.reach.count("switch-missing") == 0 || self.random.chance(33);
         let existing = self.random.below(count.into()) as u8;
-        let state = if missing { self.random.pick(&[count, 255]) } else { existing };
+        let state = self.random.pick(&[existing, existing, existing, existing, count, 255]);
         self.switch(state)
     }
 
@@ -348,7 +335,8 @@ impl<W: Write> Gen<W> {
                 draft.show_damage(Packet::V6);
             }
         } else if self.random.chance(60) {
-            draft.damage = self.next_damage();
+            self.damage = (self.damage + 1) % DAMAGES.len();
+            draft.damage = DAMAGES[self.damage];
             if self.random.chance(85) {
                 draft.show_damage(Packet::V4);
             }
@@ -358,14 +346,6 @@ impl<W: Write> Gen<W> {
             self.layers(&frame)?;
         }
         self.judge(&frame)
-    }
-
-    /// In turn, but one that has shown nothing yet comes before the others.
-    fn next_damage(&mut self) -> Damage {
-        let next = |step: usize| (self.damage + step) % DAMAGES.len();
-        let unseen = |at: &usize| shown_by(DAMAGES[*at]).is_some_and(|name| self.reach.count(name) == 0);
-        self.damage = (1..DAMAGES.len()).map(next).find(unseen).unwrap_or(next(1));
-        DAMAGES[self.damage]
     }
 
     /// Lengths at the ends of what may be judged, in turn where the call is judged and not refused before the frame is looked at.
@@ -384,27 +364,5 @@ impl<W: Write> Gen<W> {
             self.layers(&frame)?;
         }
         self.judge(&frame)
-    }
-}
-
-/// What a damage shows on IPv4, by name; with some that goes by the frame, or is not named.
-fn shown_by(damage: Damage) -> Option<&'static str> {
-    match damage {
-        Damage::MoreFragments => Some("fragment-more"),
-        Damage::FragmentOffset => Some("fragment-offset"),
-        Damage::Padding => Some("ip-padding"),
-        Damage::CutDeep => Some("ip-short"),
-        Damage::Checksum => Some("ip-checksum"),
-        Damage::Version => Some("ip-version"),
-        Damage::FewWords => Some("ip-few-words"),
-        Damage::TotalBelowHeader => Some("ip-total-below-header"),
-        Damage::TotalBeyondRest => Some("ip-total-beyond-rest"),
-        Damage::UdpLength => Some("udp-length"),
-        Damage::ShortTcp => Some("tcp-short"),
-        Damage::ShortUdp => Some("udp-short"),
-        Damage::TcpOffsetLow => Some("tcp-offset-low"),
-        Damage::TcpOffsetHigh => Some("tcp-offset-beyond"),
-        Damage::MessageLengthLess => Some("someip-left-over"),
-        _ => None,
     }
 }

@@ -134,24 +134,24 @@ fn track(rule: &Rule, records: &mut Records, place: usize, arrival: &Arrival) ->
     }
 }
 
-/// An open segment of a conversation that is not held. A free place is of no use to a socket at its number.
+/// An open segment of a conversation that is not held. A socket at its number gets no place, though one is free.
 fn begin(rule: &Rule, records: &mut Records, place: usize, socket: u8, quadruple: Quadruple) -> Verdict {
     let at = usize::from(socket);
-    let below_number = records.held_by(place)[at] < rule.numbers[at];
-    let free = if below_number { records.first_free(place, rule.places) } else { None };
-    let Some(slot) = free.or_else(|| records.first_to_give_up(place, socket)) else {
+    if records.held_by(place)[at] >= rule.numbers[at] {
+        return Verdict::NoFreePlace;
+    }
+    let Some(slot) = records.first_free(place, rule.places) else {
         return Verdict::NoFreePlace;
     };
     records.hold(place, slot, OPENING, socket, Conversation { quadruple, age: 0 });
     Verdict::Passed
 }
 
-/// The rows of 01's table, as 02 amends it, for a conversation that is held.
+/// The rows of 01's table for a conversation that is held.
 fn proceed(records: &mut Records, place: usize, slot: usize, segment: Segment) -> Verdict {
     let held = &mut records.held[place][slot];
     match (*held, segment) {
         (OPENING, Segment::Open) | (RUNNING | CLOSING, Segment::Carry) | (CLOSING, Segment::End) => {}
-        (CLOSING, Segment::Open) => *held = OPENING,
         (OPENING, Segment::Carry) => *held = RUNNING,
         (OPENING | RUNNING, Segment::End) => *held = CLOSING,
         (_, Segment::Reset) => {

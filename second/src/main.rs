@@ -5,8 +5,6 @@ mod answer;
 mod bundles;
 mod capture;
 mod captures;
-#[cfg(test)]
-mod closing;
 mod dispatch;
 mod draft;
 mod event;
@@ -29,7 +27,6 @@ mod reach;
 mod readings;
 mod recording;
 mod records;
-mod renewal;
 mod replay;
 #[cfg(test)]
 mod replaying;
@@ -120,8 +117,8 @@ fn usage() -> ExitCode {
     eprintln!("second run < stream > lines\nsecond recording < capture > stream\nsecond gen SEED N > stream");
     eprintln!("second replay < capture > lines\nsecond captures SEED N DIRECTORY\nsecond flags > page");
     eprintln!("second rewrite big|little micro|nano < capture > capture");
-    eprintln!("second pace SCENE TIMES STEP > stream, SCENE one of worked, last, none, held, both, reuse,");
-    eprintln!("  six, chain, message, bundle, codes, dearest,");
+    eprintln!("second pace SCENE TIMES STEP > stream, SCENE one of worked, last, none, held, both, six, chain,");
+    eprintln!("  message, bundle, codes, dearest,");
     eprintln!(
         "  grow RULES HELD LENGTH, or check NAME, NAME one of worked, ports, tracked, empty, full, ipv6, nothing"
     );

@@ -5,11 +5,9 @@ use std::io::{self, Write};
 
 use crate::draft::{Damage, Draft, Extension, Message, Packet};
 use crate::image::{read_table, write_records, write_table, TABLE_IMAGE};
-use crate::layers::{
-    Addresses, Kind, ACK, DEST_OPTIONS, ETHER_IPV4, ETHER_IPV6, FIN, LONGEST_CHAIN, PROTOCOL_TCP, SYN,
-};
+use crate::layers::{Addresses, Kind, ACK, DEST_OPTIONS, ETHER_IPV4, ETHER_IPV6, LONGEST_CHAIN, PROTOCOL_TCP};
 use crate::random::Random;
-use crate::records::{Conversation, Quadruple, Records, CLOSING, RUNNING};
+use crate::records::{Conversation, Quadruple, Records, RUNNING};
 use crate::table::{set, Action, Prefix, Prefix6, Range, Rule, State, Table, LONGEST_IDLE, PLACES, RULES, SOCKETS};
 use crate::table_t::{arp, frame_a, table_t};
 
@@ -41,8 +39,6 @@ pub enum Scene {
     Judged { table: Table, records: Records, frames: Vec<Vec<u8>> },
     /// A frame of each socket, and the sockets take turns.
     Alternating { table: Table, records: Records, frames: [Vec<u8>; SOCKETS] },
-    /// New conversations of the last rule, each of which is opened and ended.
-    Renewing { table: Table, records: Records },
     /// Fresh records of this table are asked for, and refused.
     Checked(Table),
 }
@@ -55,7 +51,6 @@ pub fn scene(words: &[&str]) -> Option<Scene> {
         ["none"] => Some(ports(PORT_OF_NO_RULE)),
         ["held"] => Some(held()),
         ["both"] => Some(both()),
-        ["reuse"] => Some(reuse()),
         ["six"] => Some(six(0)),
         ["chain"] => Some(six(LONGEST_CHAIN)),
         ["message"] => Some(messages(1)),
@@ -81,12 +76,6 @@ impl Scene {
             Scene::Alternating { table, records, frames } => {
                 write_images(table, records, output)?;
                 write_turns(frames, times, step, output)?;
-                output.write_all(b"P")
-            }
-            Scene::Renewing { table, records } => {
-                write_images(table, records, output)?;
-                let mut row = Row { reading: START, step };
-                renewals(times).try_for_each(|frame| row.write(1, &frame, output))?;
                 output.write_all(b"P")
             }
             Scene::Checked(table) => write_checked(table, times, step, output),
@@ -194,28 +183,10 @@ fn both() -> Scene {
     Scene::Alternating { table, records, frames: [held_frame(half - 1), held_frame(PLACES - 1)] }
 }
 
-/// All places held, those of the last rule by Closing conversations of one age.
-fn reuse() -> Scene {
-    let mut records = running(RULES, PLACES);
-    records.held[RULES - 1].fill(CLOSING);
-    Scene::Renewing { table: table(RULES, Action::Block, tracked_rule), records }
-}
-
-/// An open segment of each of so many new conversations of the last rule, and behind it one that ends it. Each has the next source address, so
-/// that by its age and by the order, both, the conversation that gives up its place is the one that has held its own for longest.
-fn renewals(count: u32) -> impl Iterator<Item = Vec<u8>> {
-    (PLACES as u32..).take(count as usize).flat_map(|number| [SYN, FIN | ACK].map(|flags| segment(number, flags)))
-}
-
 /// A frame of the conversation that the last rule holds in this slot.
 fn held_frame(slot: usize) -> Vec<u8> {
-    segment(slot as u32, ACK)
-}
-
-/// A segment of the last rule's conversation with this number.
-fn segment(number: u32, flags: u8) -> Vec<u8> {
     let draft = draft(Kind::Tcp, HTTPS, first_port(RULES - 1), 10);
-    Draft { source: SOURCE + number, flags, ..draft }.bytes(&mut Random::new(0))
+    Draft { source: SOURCE + slot as u32, ..draft }.bytes(&mut Random::new(0))
 }
 
 /// Tracked rules of IPv6, a conversation of the last one held, and a segment of it behind a chain of so many headers.
@@ -422,14 +393,13 @@ fn draft(kind: Kind, sport: u16, dport: u16, payload: usize) -> Draft {
 
 #[cfg(test)]
 mod tests {
-    use super::{checked, renewals, scene, set, Records, Scene, CLOSING, PLACES, RULES, START, TABLE_IMAGE};
+    use super::{checked, scene, set, Records, Scene, RULES, START, TABLE_IMAGE};
     use crate::answer::{Refusal, Verdict};
     use crate::image::RECORD_IMAGE;
     use crate::judge::judge;
     use crate::layers::{self, Ip};
     use crate::matching::message_agrees;
     use crate::records::FREE;
-    use crate::stream::run;
 
     #[test]
     fn a_checked_table_lacks_nothing_but_a_vehicle_state() {
@@ -463,39 +433,6 @@ mod tests {
         let turns = stream[2 + TABLE_IMAGE + RECORD_IMAGE..].chunks(2 + 21 + 64).map(|turn| (turn[1], turn[6]));
         let expected = [(0, 100), (1, 100), (0, 100), (1, 100), (0, 50), (1, 50)];
         assert_eq!(turns.take(6).collect::<Vec<_>>(), expected);
-    }
-
-    #[test]
-    fn every_second_segment_takes_a_place_that_is_given_up() {
-        for step in [0, 1, 1_000] {
-            let Some(Scene::Renewing { table, mut records }) = scene(&["reuse"]) else { panic!("no scene") };
-            let mut reading = START;
-            for (at, frame) in renewals(40).enumerate() {
-                let all_held = records.held[RULES - 1];
-                assert!(at % 2 == 1 || all_held == [CLOSING; PLACES], "{all_held:?}");
-                let before = records.conversations[RULES - 1];
-                let answer = judge(&table, &mut records, 0, &frame, reading, &mut [0; 256]).expect("judged");
-                assert_eq!((answer.verdict, answer.rule), (Verdict::Passed, RULES as u16));
-                // One place after the other, over and over.
-                let slot = at / 2 % PLACES;
-                let after = records.conversations[RULES - 1];
-                let same = |slot: usize| before[slot].quadruple == after[slot].quadruple;
-                assert!((0..PLACES).all(|each| same(each) == (at % 2 == 1 || each != slot)), "{at}");
-                reading += step;
-            }
-        }
-    }
-
-    #[test]
-    fn so_many_are_opened_and_as_many_ended() {
-        let mut stream = Vec::new();
-        scene(&["reuse"]).expect("a scene").write(20, 1, &mut stream).expect("written");
-        let mut lines = Vec::new();
-        run(&mut &stream[..], &mut lines).expect("printed");
-        let lines = String::from_utf8(lines).expect("text");
-        assert_eq!(lines.matches("J 0 64 0 -\n").count(), 40);
-        assert!(lines.contains(&format!("P {} 0 0 0\n", START + 39)) && lines.contains("p 63 0 0 40 0\n"));
-        assert_eq!(lines.matches(" 10630 3 ").count(), PLACES, "Closing again");
     }
 
     #[test]

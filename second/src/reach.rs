@@ -1,7 +1,6 @@
 //! What a generated stream has reached, by name and how often.
 
 mod bundles;
-mod closing;
 mod ipv6;
 mod sockets;
 
@@ -16,7 +15,6 @@ use crate::layers::{self, be16, be32, Ip, Kind, Layers, ACK, ETHER_IPV4, ETHER_I
 use crate::matching::{matching_layers, ALL_LAYERS};
 use crate::modem::Wish;
 use crate::records::{Quadruple, Records, FREE, HIGHEST_LEVEL};
-use crate::renewal::Reuse;
 use crate::setting;
 use crate::table::{set, Rule, Table, CAN_BE_AT_FAULT, PLACES, RULES, SOCKETS};
 use crate::terminal::Sharing;
@@ -187,7 +185,6 @@ impl Reach {
         names.extend(Wish::all().into_iter().map(Wish::name));
         names.extend(Bundle::all().into_iter().map(Bundle::name));
         names.extend(Sharing::all().into_iter().map(Sharing::name));
-        names.extend(Reuse::all().into_iter().map(Reuse::name));
         names.extend((0..4).flat_map(|held| flag_sets().map(move |flags| flags_name(held, flags))));
         Reach::of(names)
     }
@@ -252,7 +249,6 @@ impl Reach {
         let aged = call.aged();
         self.records(call, answer, &layers, &aged);
         self.sockets(call, answer, &layers, &aged);
-        self.closing(call, answer, &layers, &aged);
     }
 
     fn refused_call(&mut self, call: &Call, refusal: Refusal) {

@@ -1,7 +1,5 @@
 //! The records: what makes them bad, fresh records, the switch of vehicle state, and step 2.
 
-use std::cmp::Reverse;
-
 use crate::answer::Refusal;
 use crate::layers::Addresses;
 use crate::table::{set, Rule, Table, PLACES, RULES, SOCKETS};
@@ -67,17 +65,6 @@ impl Conversation {
         let Quadruple { addresses, ports } = self.quadruple;
         let Addresses::V4 { source, destination } = addresses else { return false };
         source | destination | ports | self.age == 0
-    }
-
-    /// What Closing conversations are compared by, in the order of 02 (7/12): that with the least gives up its place.
-    fn turn(&self) -> (Reverse<u32>, bool, u128, u128, u16, u16) {
-        let (is_ipv6, source, destination) = match self.quadruple.addresses {
-            Addresses::V4 { source, destination } => (false, source.into(), destination.into()),
-            Addresses::V6 { source, destination } => {
-                (true, u128::from_be_bytes(source), u128::from_be_bytes(destination))
-            }
-        };
-        (Reverse(self.age), is_ipv6, source, destination, self.quadruple.sport(), self.quadruple.dport())
     }
 }
 
@@ -239,12 +226,6 @@ impl Records {
     #[inline]
     pub fn first_free(&self, place: usize, places: u8) -> Option<usize> {
         self.held[place][..usize::from(places)].iter().position(|held| *held == FREE)
-    }
-
-    /// The slot of the socket's Closing conversation that gives up its place before its others do.
-    pub fn first_to_give_up(&self, place: usize, socket: u8) -> Option<usize> {
-        let closing = |slot: &usize| self.held[place][*slot] == CLOSING && self.sockets[place][*slot] == socket;
-        (0..PLACES).filter(closing).min_by_key(|slot| self.conversations[place][*slot].turn())
     }
 
     /// Puts a socket's conversation in a place.

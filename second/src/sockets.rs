@@ -31,40 +31,40 @@ fn rule(settings: u32) -> Rule {
     Rule { set: settings, ..read_table(&[0; TABLE_IMAGE]).rules[0] }
 }
 
-pub fn tracked(places: u8, numbers: [u8; SOCKETS]) -> Rule {
+fn tracked(places: u8, numbers: [u8; SOCKETS]) -> Rule {
     Rule { kind: Kind::Tcp, places, numbers, idle: 1_000, ..rule(set::KIND | set::TRACKING) }
 }
 
 /// A table with its records, judged frame by frame.
-pub struct Bench {
-    pub table: Table,
-    pub records: Records,
+struct Bench {
+    table: Table,
+    records: Records,
 }
 
 impl Bench {
-    pub fn new(rules: &[Rule]) -> Bench {
+    fn new(rules: &[Rule]) -> Bench {
         let table = table(rules);
         assert_eq!(table.check(), Ok(()));
         Bench { table, records: Records::empty(0) }
     }
 
     /// Verdict, rule id and event.
-    pub fn judge(&mut self, reading: u64, socket: u8, frame: &[u8]) -> (Verdict, u16, Vec<u8>) {
+    fn judge(&mut self, reading: u64, socket: u8, frame: &[u8]) -> (Verdict, u16, Vec<u8>) {
         let mut space = [170; 256];
         let answer = judge(&self.table, &mut self.records, socket, frame, reading, &mut space).expect("judged");
         (answer.verdict, answer.rule, space[..answer.length].to_vec())
     }
 
-    pub fn verdict(&mut self, socket: u8, frame: &[u8]) -> u8 {
+    fn verdict(&mut self, socket: u8, frame: &[u8]) -> u8 {
         self.judge(self.records.last, socket, frame).0.number()
     }
 
-    pub fn verdicts<const N: usize>(&mut self, calls: [(u8, Vec<u8>); N]) -> [u8; N] {
+    fn verdicts<const N: usize>(&mut self, calls: [(u8, Vec<u8>); N]) -> [u8; N] {
         calls.map(|(socket, frame)| self.verdict(socket, &frame))
     }
 
     /// The socket and state of each place of the first rule that is held.
-    pub fn held(&self) -> Vec<(usize, u8, u8)> {
+    fn held(&self) -> Vec<(usize, u8, u8)> {
         let all = self.records.held[0].iter().zip(self.records.sockets[0]).enumerate();
         all.filter(|(_, (state, _))| **state != FREE).map(|(slot, (state, socket))| (slot, socket, *state)).collect()
     }
@@ -268,12 +268,10 @@ fn a_number_of_0_lets_its_socket_hold_nothing() {
 fn what_is_held_goes_on_at_the_number() {
     let mut bench = Bench::new(&[tracked(2, [1, 1])]);
     let (syn_again, ack, fin) = (tcp(1, SYN | ACK), tcp(1, ACK), tcp(1, FIN | ACK));
-    assert_eq!(bench.verdicts([(0, syn(1)), (0, syn_again), (0, ack), (0, syn(1))]), [0, 0, 0, 42]);
-    assert_eq!(bench.held(), [(0, 0, RUNNING)]);
+    assert_eq!(bench.verdicts([(0, syn(1)), (0, syn_again), (0, ack), (0, syn(1)), (0, fin)]), [0, 0, 0, 42, 0]);
+    assert_eq!(bench.held(), [(0, 0, CLOSING)]);
     // Wrong flags and what is not open come before the number.
     assert_eq!(bench.verdicts([(0, tcp(2, 0)), (0, tcp(2, ACK)), (0, syn(2))]), [40, 41, 5]);
-    assert_eq!(bench.verdict(0, &fin), 0);
-    assert_eq!(bench.held(), [(0, 0, CLOSING)]);
     assert_eq!(bench.verdicts([(0, tcp(1, RST)), (0, syn(2)), (0, syn(1))]), [0, 0, 5]);
 }
 

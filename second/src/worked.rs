@@ -114,12 +114,12 @@ fn m6_a_conversation_opens_and_runs() {
 const KINDS: &[u8; 4] = b"OCER";
 /// What each of the sixteen sets of flags is, FIN lowest, then SYN, RST and ACK; a point where it is wrong.
 const FLAG_SETS: &[u8; 16] = b"..O.R...CEO.R...";
-/// 01's table as 02 amends it (1/12, 7/12): how the conversation is held; for each kind the verdict, and how it is held after.
+/// 01's table with 02's verdicts: how the conversation is held; for each kind the verdict, and how it is held after.
 const BY_KIND: [(u8, [(u8, u8); 4]); 4] = [
     (FREE, [(0, OPENING), (41, FREE), (41, FREE), (41, FREE)]),
     (OPENING, [(0, OPENING), (0, RUNNING), (0, CLOSING), (0, FREE)]),
     (RUNNING, [(42, RUNNING), (0, RUNNING), (0, CLOSING), (0, FREE)]),
-    (CLOSING, [(0, OPENING), (0, CLOSING), (0, CLOSING), (0, FREE)]),
+    (CLOSING, [(42, CLOSING), (0, CLOSING), (0, CLOSING), (0, FREE)]),
 ];
 
 #[test]

@@ -3,22 +3,21 @@
 use Prim.Native.Nat.{ℕ, ◌<◌, ◌≤◌}
 use native.Mathlib.Omega.{arith}
 use mathlib.Core.Path.{◌≡◌, refl, sym, ap, subst, ◌∙◌}
-use mathlib.Core.Logic.{◌⊎◌, inl, inr, ⊎_elim}
+use mathlib.Core.Logic.{◌⊎◌, inl, inr}
 use mathlib.Core.Bool.{Bool, true, false, false≢true}
 use mathlib.Core.List.{List}
 use lib.ListN.{length, set, length-set, get_or-eq_default}
 use lib.Dec.{ltb}
 use borrow.Author.Tests.{lt-ltb, ltb-true, ltb-false}
 use Rattle.numbers.specs.Lists.{All}
-use Rattle.numbers.proofs.Lists.{cond_both, and_both, first_holds, first_before}
+use Rattle.numbers.proofs.Lists.{cond_both, first_holds, first_before}
 use Rattle.table.specs.declared.Tracking.{Tracking}
 use Rattle.table.specs.declared.Tracking.TheVariants as tracking
 use Rattle.table.specs.declared.Room.{Room}
 use Rattle.table.specs.Table.{number_of}
 use Rattle.places.specs.Places.{Place, free, is_free, Fits, holds, of_socket, held_by, phase_of, held_as}
 use Rattle.flags.specs.Flags.{next_of}
-use Rattle.conversations.specs.Choice.{is_oldest, oldest_at}
-use Rattle.conversations.specs.Tracking.{Tracked, moved, begun, held_at, free_at, finds_free, seat_of, step_of, tracked_in, tracked}
+use Rattle.conversations.specs.Tracking.{Tracked, moved, begun, held_at, seat_of, step_of, tracked_in, tracked}
 use Rattle.places.specs.Good.{room_in, fits_kind}
 use Rattle.places.specs.declared.Quad.{Quad}
 use Rattle.flags.specs.declared.FlagKind.{FlagKind}
@@ -30,38 +29,29 @@ use Rattle.flags.specs.declared.Phase.TheVariants as phase
 use Rattle.flags.specs.declared.Next.{Next}
 use Rattle.flags.specs.declared.Next.TheVariants as next
 use Rattle.conversations.specs.declared.Turn.{Turn}
-use Rattle.numbers.proofs.Tests.{by_test, by_less, or_second}
+use Rattle.numbers.proofs.Tests.{by_less, or_second}
 use Rattle.numbers.proofs.Elements.{All-set}
 use Rattle.places.proofs.PlaceLaws.{free_fits}
-use Rattle.conversations.proofs.TrackLaws.{seat_free, seat_old}
-use Rattle.conversations.proofs.ChoiceLaws.{oldest_of}
+use Rattle.conversations.proofs.TrackLaws.{seat_below, seat_at}
 use Rattle.places.proofs.PlacesLaws.{at, PlacesGood, held_clean, set_good, set_free, phase_held, held_fits}
 use Rattle.places.proofs.HoldLaws.{holds_is, free_holds, of_is, is_of_lem}
 
--- the place that a new conversation takes: one of the rule's, free, where its socket is below its number, or given up by one of the socket's own
+-- the place that a new conversation takes: one of the rule's, free, and its socket is below its number
 pub record Taken (m : Room) (second : Bool) (ps : List Place) (i : ℕ) : Type 0 where
   pub room : i < m.places
-  pub from : ((is_free (at ps i) ≡ true) × (held_by second ps < number_of m second)) ⊎ (of_socket second (at ps i) ≡ true)
+  pub idle : is_free (at ps i) ≡ true
+  pub below : held_by second ps < number_of m second
 
 seat_taken : (m : Room) (second : Bool) (ps : List Place) → seat_of m second ps < m.places → Taken m second ps (seat_of m second ps)
-seat_taken m second ps h = record { room = h; from = by_test (finds_free m second ps) idle given }
-  where
-    idle : finds_free m second ps ≡ true
-        → ((is_free (at ps (seat_of m second ps)) ≡ true) × (held_by second ps < number_of m second)) ⊎ (of_socket second (at ps (seat_of m second ps)) ≡ true)
-    idle e =
-        let b = and_both (ltb (held_by second ps) (number_of m second)) (ltb (free_at ps m.places) m.places) e in
-        let f = first_holds (λ j. is_free (at ps j)) m.places (ltb-true (free_at ps m.places) m.places b.1) in
-        inl (ap (λ (i : ℕ). is_free (at ps i)) (seat_free m second ps e) ∙ f, ltb-true (held_by second ps) (number_of m second) b.0)
+seat_taken m second ps h =
+    by_less (held_by second ps) (number_of m second)
+    (λ l.
+    let e = seat_below m second ps l in
+    subst (Taken m second ps) (sym e)
+    (record { room = omega (arith, e); idle = first_holds (λ j. is_free (at ps j)) m.places (omega (arith, e)); below = l }))
+    (λ l. absurd (omega (arith, seat_at m second ps l)))
 
-    given : finds_free m second ps ≡ false
-        → ((is_free (at ps (seat_of m second ps)) ≡ true) × (held_by second ps < number_of m second)) ⊎ (of_socket second (at ps (seat_of m second ps)) ≡ true)
-    given e =
-        let s = seat_old m second ps e in
-        let h : oldest_at second ps m.places < m.places = omega (arith, s) in
-        let f = first_holds (λ j. is_oldest second ps (at ps j)) m.places h in
-        inr (ap (λ (i : ℕ). of_socket second (at ps i)) s ∙ oldest_of second ps (at ps (oldest_at second ps m.places)) f)
-
--- What tracking can do to the places: nothing, a conversation on to its next state, one removed, or a new one
+-- What tracking can do to the places: nothing, a conversation on to its next state, one removed, or a new one of a socket below its number
 module _ (m : Room) (g : Turn) (ps : List Place) (P : List Place → Type 0) (stays : P ps)
     (goes : (i : ℕ) (f : Phase) → holds g.quad (at ps i) ≡ true → P (set ps i (held_as g.quad f)))
     (ends : (i : ℕ) → holds g.quad (at ps i) ≡ true → P (set ps i free))
@@ -120,9 +110,7 @@ places_tracked (tracking.Set m) l g v ps p =
     (λ i h. set_free m ps i free p refl refl)
     (λ i h none.
     anew i phase.Opening (λ n. let r = h.room in absurd (omega arith)) (λ j k. absurd (false≢true (sym (none j) ∙ k)))
-    (λ k e.
-    ⊎_elim (λ w. inr (subst (λ (b : Bool). held_by b ps < number_of m b) e w.1))
-    (λ w. inl (subst (λ (b : Bool). of_socket b (at ps i) ≡ true) e w)) h.from))
+    (λ k e. inr (subst (λ (b : Bool). held_by b ps < number_of m b) e h.below)))
   where
     q : Quad
     q = g.quad

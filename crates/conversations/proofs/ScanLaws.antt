@@ -12,16 +12,16 @@ use native.Mathlib.Nat.{add-zero, zero-add}
 use native.Mathlib.Omega.{arith}
 use borrow.Author.Tests.{lt-ltb, le-ltb}
 use Rattle.numbers.specs.Lists.{first_from, first}
-use Rattle.places.specs.Places.{Place, free, is_free, place_of, places_of, same_quad, holds}
+use Rattle.places.specs.Places.{Place, free, is_free, no_quad, place_of, places_of, same_quad, holds}
 use Rattle.conversations.specs.Tracking.{held_at, free_at}
-use Rattle.conversations.specs.Scan.{shown, vacant, shows, is_older, seen_by, scan_from, nowhere, scan_of}
+use Rattle.conversations.specs.Scan.{shown, vacant, shows, seen_by, scan_from, nowhere, scan_of}
 use Rattle.places.specs.declared.Quad.{Quad}
 use Rattle.conversations.specs.declared.scan.Conversation.{Conversation}
 use Rattle.conversations.specs.declared.scan.Found.{Found}
 
 -- the struct of a free place, where a list has no more
 abbrev pub empty : Conversation
-empty = shown free
+empty = record { state = 0; quad = no_quad false }
 
 -- ---- the loader: the first i of a list are read
 
@@ -50,24 +50,22 @@ read_shown (w ∷ ws) = ap (λ k. read w ∷ k) (read_shown ws)
 -- ---- the step, as the code tests it
 
 pub seen_same :
-    (q : Quad) (c : Conversation) (i : ℕ) (f r : Found) (same older : Bool) → same ≡ same_quad q c.quad → older ≡ is_older q.second c f.closing
+    (q : Quad) (c : Conversation) (i : ℕ) (f r : Found) (same : Bool) → same ≡ same_quad q c.quad
     → r.held ≡ cond ((not (eqb c.state 0) && same) && ltb i f.held) i f.held
-    → r.free ≡ cond (eqb c.state 0 && ltb i f.free) i f.free
-    → r.oldest ≡ cond older i f.oldest → r.closing ≡ cond older c f.closing → r ≡ seen_by q c i f
+    → r.free ≡ cond (eqb c.state 0 && ltb i f.free) i f.free → r ≡ seen_by q c i f
 unfolding seen_by
-seen_same q c i f r same older s t a b d e =
+seen_same q c i f r same s a b =
     let h = a ∙ ap (λ (t : Bool). cond ((not (eqb c.state 0) && t) && ltb i f.held) i f.held) s in
-    let o = d ∙ ap (λ (t : Bool). cond t i f.oldest) t in
-    let g = e ∙ ap (λ (t : Bool). cond t c f.closing) t in
-    λ k. record { held = h k; free = b k; oldest = o k; closing = g k }
+    λ k. record { held = h k; free = b k }
 
 -- ---- the loop: f is found before place i, and the rest of the scan from there gives what the whole gives
 
-module _ (q : Quad) (start : Found) where
+module _ (q : Quad) where
   abbrev pub Upto : List Conversation → ℕ → Found → Type 0
-  Upto cs i f = scan_from q i f (drop i cs) ≡ scan_from q 0 start cs
+  Upto cs i f = scan_from q i f (drop i cs) ≡ scan_of q cs
 
-  pub at_start_lem : (cs : List Conversation) → Upto cs 0 start
+  pub at_start_lem : (cs : List Conversation) → Upto cs 0 (nowhere (length cs))
+  unfolding scan_of
   at_start_lem cs = refl
 
   pub one_more_lem :
@@ -79,7 +77,7 @@ module _ (q : Quad) (start : Found) where
       ∙ sym (ap (scan_from q i f) (drop-cons cs i empty l))
       ∙ so)
 
-  pub at_end_lem : (cs : List Conversation) (i : ℕ) (f : Found) → length cs ≤ i → Upto cs i f → f ≡ scan_from q 0 start cs
+  pub at_end_lem : (cs : List Conversation) (i : ℕ) (f : Found) → length cs ≤ i → Upto cs i f → f ≡ scan_of q cs
   at_end_lem cs i f over so = sym (ap (scan_from q i f) (drop_of_length-le cs over)) ∙ so
 
 -- ---- what the fold finds, of either part of the answer
@@ -136,8 +134,11 @@ unfolding seen_by
 scan_free q ps = found_first q (λ f. f.free) vacant (λ c i f. refl) is_free (λ p. refl) ps refl
 
 pub found_all :
-    (q : Quad) (cs : List Conversation) (ps : List Place) (start r : Found) → length cs ≡ 8 → cs ≡ map shown ps → start ≡ nowhere 8
-    → r ≡ scan_from q 0 start cs → r ≡ scan_of q (map shown ps)
-unfolding scan_of
-found_all q cs ps start r n e b h =
-    h ∙ ap (λ (f : Found). scan_from q 0 f cs) (b ∙ ap nowhere (sym n)) ∙ ap (λ (l : List Conversation). scan_from q 0 (nowhere (length l)) l) e
+    (q : Quad) (cs : List Conversation) (ps : List Place) (r : Found) → length cs ≡ 8 → cs ≡ map shown ps → r ≡ scan_of q cs
+    → (r.held ≡ held_at q ps) × (r.free ≡ free_at ps 8)
+found_all q cs ps r n e h =
+    let so = h ∙ ap (scan_of q) e in (
+      ap (λ (f : Found). f.held) so ∙ scan_held q ps,
+      ap (λ (f : Found). f.free) so ∙ scan_free q ps
+          ∙ ap (free_at ps) (sym (length-map ps shown) ∙ ap length (sym e) ∙ n),
+    )

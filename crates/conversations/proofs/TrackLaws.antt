@@ -1,15 +1,12 @@
 -- Laws of tracking in the words of the code's branches.
 -- Assumes nothing.
-use Prim.Native.Nat.{ℕ, ◌<◌, ◌≤◌, min}
-use mathlib.Core.Path.{◌≡◌, sym, ap, ap₂, ◌∙◌}
-use mathlib.Core.Bool.{Bool, true, false, ◌&&◌}
+use Prim.Native.Nat.{ℕ, ◌<◌, ◌≤◌}
+use mathlib.Core.Path.{◌≡◌, sym, ap, ◌∙◌}
+use mathlib.Core.Bool.{Bool}
 use mathlib.Core.List.{List, []}
 use lib.ListN.{length, get_or, set, length-map}
-use lib.Dec.{ltb}
 use native.Mathlib.Omega.{arith}
-use borrow.Author.Tests.{lt-ltb, le-ltb, ltb-true}
-use Rattle.numbers.proofs.Lists.{and_both, first_fewer}
-use Rattle.numbers.proofs.Tests.{by_less}
+use borrow.Author.Tests.{lt-ltb, le-ltb}
 use Rattle.table.specs.declared.Room.{Room}
 use Rattle.places.specs.declared.Quad.{Quad}
 use Rattle.flags.specs.declared.FlagKind.{FlagKind}
@@ -18,12 +15,9 @@ use Rattle.flags.specs.declared.Phase.TheVariants as phase
 use Rattle.flags.specs.declared.Next.{Next}
 use Rattle.conversations.specs.declared.Progress.{Progress}
 use Rattle.conversations.specs.declared.Progress.TheVariants as progress
-use Rattle.places.specs.Places.{Place, free, is_free, place_of, places_of, held_by, held_as, phase_of}
+use Rattle.places.specs.Places.{Place, free, place_of, places_of, held_by, held_as, phase_of}
 use Rattle.table.specs.Table.{number_of}
-use Rattle.conversations.specs.Choice.{is_oldest, oldest_at}
-use Rattle.conversations.specs.Scan.{Finds}
-use Rattle.conversations.specs.declared.scan.Found.{Found}
-use Rattle.conversations.specs.Tracking.{Tracked, tracked_as, held_at, free_at, finds_free, seat_of, moved, opened, begun, step_of}
+use Rattle.conversations.specs.Tracking.{Tracked, tracked_as, held_at, free_at, seat_of, moved, opened, begun, step_of}
 use Rattle.flags.specs.Flags.{next_of}
 use Rattle.numbers.proofs.Elements.{map_set}
 use Rattle.places.proofs.PlaceLaws.{place_at_lem}
@@ -37,39 +31,21 @@ stored v ps i x p h =
 
 -- ---- a new conversation
 
--- a place is free and the socket is below its number, or one is given up
+-- the socket is below its number, or at it
 module _ (m : Room) (second : Bool) (ps : List Place) where
-  pub seat_free : finds_free m second ps ≡ true → seat_of m second ps ≡ free_at ps m.places
-  seat_free h = rw h
+  pub seat_below : held_by second ps < number_of m second → seat_of m second ps ≡ free_at ps m.places
+  seat_below h = rw (lt-ltb (held_by second ps) (number_of m second) h)
 
-  pub seat_old : finds_free m second ps ≡ false → seat_of m second ps ≡ oldest_at second ps m.places
-  seat_old h = rw h
+  pub seat_at : number_of m second ≤ held_by second ps → seat_of m second ps ≡ m.places
+  seat_at h = rw (le-ltb (held_by second ps) (number_of m second) h)
 
--- the same in the words of the code, of what the scan found in eight places
-module _ (m : Room) (q : Quad) (ps : List Place) (few : m.places ≤ 8) (f : Found) (is : Finds q ps f)
-    (n h k : ℕ) (many : n ≡ m.places) (held : h ≡ held_by q.second ps) (number : k ≡ number_of m q.second) where
-  free_found : free_at ps m.places ≡ min m.places f.free
-  free_found =
-      first_fewer (λ j. is_free (get_or ps j free)) m.places 8 few ∙ ap (min m.places) (sym is.free)
+  -- the same in the words of the code
+  module _ (n h k : ℕ) (many : n ≡ m.places) (held : h ≡ held_by second ps) (number : k ≡ number_of m second) where
+    pub seat_free : (i : ℕ) → h < k → i ≡ free_at ps n → i ≡ seat_of m second ps
+    seat_free i l e = e ∙ ap (free_at ps) many ∙ sym (seat_below (omega (arith, held, number)))
 
-  -- the code's test
-  free_told : (ltb h k && ltb f.free n) ≡ finds_free m q.second ps
-  free_told =
-      ap₂ (λ (a b : Bool). a && b) (ap₂ ltb held number)
-      (by_less f.free n
-      (λ l. lt-ltb f.free n l ∙ sym (lt-ltb (free_at ps m.places) m.places (omega (arith, free_found, many))))
-      (λ l. le-ltb f.free n l ∙ sym (le-ltb (free_at ps m.places) m.places (omega (arith, free_found, many)))))
-
-  pub seat_told : (ltb h k && ltb f.free n) ≡ true → f.free ≡ seat_of m q.second ps
-  seat_told t =
-      let l = ltb-true f.free n (and_both (ltb h k) (ltb f.free n) t).1 in
-      omega (arith, free_found, many, seat_free m q.second ps (sym free_told ∙ t))
-
-  pub old_told : (ltb h k && ltb f.free n) ≡ false → min n f.oldest ≡ seat_of m q.second ps
-  old_told t =
-      ap₂ min many is.oldest
-      ∙ sym (first_fewer (λ j. is_oldest q.second ps (get_or ps j free)) m.places 8 few)
-      ∙ sym (seat_old m q.second ps (sym free_told ∙ t))
+    pub seat_none : k ≤ h → n ≡ seat_of m second ps
+    seat_none l = many ∙ sym (seat_at (omega (arith, held, number)))
 
 module _ (m : Room) (q : Quad) (ps : List (List ℕ)) (n i : ℕ) (many : n ≡ m.places) (found : i ≡ seat_of m q.second (places_of ps)) where
   pub open_yes : (x : List ℕ) → i < n → place_of x ≡ held_as q phase.Opening → tracked_as progress.Holds (set ps i x) ≡ opened m q (places_of ps)
@@ -83,24 +59,21 @@ module _ (m : Room) (q : Quad) (ps : List (List ℕ)) (n i : ℕ) (many : n ≡ 
 
 -- ---- the conversation is held, or not
 
-module _ (m : Room) (q : Quad) (k : FlagKind) (ps : List (List ℕ)) (f : Found) (is : Finds q (places_of ps) f) (eight : length ps ≡ 8) where
-  found : f.held ≡ held_at q (places_of ps)
-  found = is.held
-
+module _ (m : Room) (q : Quad) (k : FlagKind) (ps : List (List ℕ)) (i : ℕ) (found : i ≡ held_at q (places_of ps)) (eight : length ps ≡ 8) where
   many : length (places_of ps) ≡ 8
   many = length-map ps place_of ∙ eight
 
-  pub step_held : (x : Tracked) (s : ℕ) (h : Phase) (n : Next) → f.held < 8 → s ≡ (place_of (get_or ps f.held [])).state → h ≡ phase_of s → n ≡ next_of h k
-      → x ≡ moved q (places_of ps) f.held n → x ≡ step_of m q (places_of ps) k
+  pub step_held : (x : Tracked) (s : ℕ) (f : Phase) (n : Next) → i < 8 → s ≡ (place_of (get_or ps i [])).state → f ≡ phase_of s → n ≡ next_of f k
+      → x ≡ moved q (places_of ps) i n → x ≡ step_of m q (places_of ps) k
   unfolding step_of
-  step_held x s h n l e d t o =
-      let p : n ≡ next_of (phase_of (get_or (places_of ps) f.held free).state) k =
-      t ∙ ap (λ (y : Phase). next_of y k) (d ∙ ap phase_of (e ∙ ap (λ (y : Place). y.state) (sym (place_at_lem ps f.held)))) in
-      rw (lt-ltb (held_at q (places_of ps)) (length (places_of ps)) (omega (arith, many, found)))
+  step_held x s f n h e d t o =
+      let p : n ≡ next_of (phase_of (get_or (places_of ps) i free).state) k =
+      t ∙ ap (λ (y : Phase). next_of y k) (d ∙ ap phase_of (e ∙ ap (λ (y : Place). y.state) (sym (place_at_lem ps i)))) in
+      rw (lt-ltb (held_at q (places_of ps)) (length (places_of ps)) (omega (arith, many)))
       (o
-      ∙ ap (moved q (places_of ps) f.held) p
+      ∙ ap (moved q (places_of ps) i) p
       ∙ ap (λ (j : ℕ). moved q (places_of ps) j (next_of (phase_of (get_or (places_of ps) j free).state) k)) found)
 
-  pub step_none : (x : Tracked) → 8 ≤ f.held → x ≡ begun m q (places_of ps) k → x ≡ step_of m q (places_of ps) k
+  pub step_none : (x : Tracked) → 8 ≤ i → x ≡ begun m q (places_of ps) k → x ≡ step_of m q (places_of ps) k
   unfolding step_of
-  step_none x h s = rw (le-ltb (held_at q (places_of ps)) (length (places_of ps)) (omega (arith, many, found))) s
+  step_none x h s = rw (le-ltb (held_at q (places_of ps)) (length (places_of ps)) (omega (arith, many))) s

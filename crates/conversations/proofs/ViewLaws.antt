@@ -4,13 +4,12 @@ use Prim.Native.Nat.{ℕ, ◌+◌, ◌<◌, ◌≤◌}
 use native.Mathlib.Omega.{arith}
 use mathlib.Core.Logic.{◌⊎◌, inl, inr, ⊎_elim}
 use mathlib.Core.Path.{◌≡◌, refl, sym, ap, subst, subst₂, ◌∙◌}
-use mathlib.Core.Bool.{Bool, true, false, cond, false≢true}
+use mathlib.Core.Bool.{Bool, true, false, cond}
 use mathlib.Core.List.{List}
 use lib.ListN.{length, set}
 use lib.Dec.{ltb}
 use borrow.Author.Tests.{lt-ltb, le-ltb}
-use Rattle.numbers.specs.Lists.{first}
-use Rattle.numbers.proofs.Lists.{and_true_true, first_holds, first_before, first_same, first_fewer}
+use Rattle.numbers.proofs.Lists.{first_holds, first_before}
 use Rattle.numbers.proofs.Tests.{by_less}
 use Rattle.numbers.proofs.Counting.{count_cover}
 use Rattle.table.specs.declared.Room.{Room}
@@ -28,15 +27,13 @@ use Rattle.flags.specs.declared.Next.TheVariants as next
 use Rattle.places.specs.Places.{Place, free, is_free, holds, of_socket, held_by, phase_of, held_as}
 use Rattle.places.specs.Good.{room_in, places_in}
 use Rattle.places.specs.declared.Quad.{Quad}
-use Rattle.places.proofs.HoldLaws.{holds_is, of_is, is_of_lem, free_of, not_of}
+use Rattle.places.proofs.HoldLaws.{holds_is, is_of_lem, free_of, not_of}
 use Rattle.places.proofs.PlacesLaws.{at, PlacesGood}
-use Rattle.places.proofs.ViewLaws.{Mine, View, mine_fails, view_set, view_other, first_in, Both, view_first}
+use Rattle.places.proofs.ViewLaws.{Mine, View, mine_fails, view_set, view_other, Both, view_first}
 use Rattle.conversations.specs.declared.Turn.{Turn}
 use Rattle.conversations.specs.declared.Progress.TheVariants as progress
-use Rattle.conversations.specs.Choice.{is_oldest}
 use Rattle.conversations.specs.Tracking.{Together, Tracked, free_at, seat_of, held_at, moved, opened, begun, step_of, tracked_in, tracked}
-use Rattle.conversations.proofs.TrackLaws.{seat_free, seat_old}
-use Rattle.conversations.proofs.ChoiceLaws.{oldest_of, oldest_once, oldest_same}
+use Rattle.conversations.proofs.TrackLaws.{seat_below, seat_at}
 use Rattle.conversations.proofs.KeptLaws.{tracked_by}
 
 -- good places of a rule that tracks, and as many as it has
@@ -92,19 +89,6 @@ module _ (m : Room) (s : Together (tracking.Set m)) (k : Bool) (ps qs : List Pla
   count_same : held_by k ps ≡ held_by k qs
   count_same = v (of_socket k) (λ p h. h)
 
-  -- what only the socket's conversations pass is found in the rule's places, or not at all
-  old_below :
-      (ls : List Place) → Fit (tracking.Set m) ls → (f : Place → Bool) → Mine k f → first_in f ls < length ls
-      → (first_in f ls < m.places) × (first (λ j. f (at ls j)) m.places ≡ first_in f ls)
-  old_below ls c f o h =
-      let e = of_is k (at ls (first_in f ls)) (o (at ls (first_in f ls)) (first_holds (λ j. f (at ls j)) (length ls) h)) in
-      by_less (first_in f ls) m.places
-      (λ l. (l, omega (arith, first_fewer (λ j. f (at ls j)) m.places (length ls) c.row)))
-      (λ l. absurd (false≢true (sym e.0 ∙ c.good.spare (first_in f ls) l)))
-
-  old_none : (ls : List Place) → Fit (tracking.Set m) ls → (f : Place → Bool) → length ls ≤ first_in f ls → m.places ≤ first (λ j. f (at ls j)) m.places
-  old_none ls c f h = let r = c.row in omega (arith, first_fewer (λ j. f (at ls j)) m.places (length ls) r)
-
   seat_alike : Seats m k ps qs (seat_of m k ps) (seat_of m k qs) ⊎ Full m (seat_of m k ps) (seat_of m k qs)
   seat_alike = by_less (held_by k ps) (number_of m k) below above
     where
@@ -117,7 +101,7 @@ module _ (m : Room) (s : Together (tracking.Set m)) (k : Bool) (ps qs : List Pla
           let g : held_by k qs < number_of m k = omega (arith, count_same) in
           let c = free_below m ps a s k h in
           let d = free_below m qs b s k g in
-          subst₂ P (sym (seat_free m k ps (and_true_true (lt-ltb _ _ h) (lt-ltb _ _ c)))) (sym (seat_free m k qs (and_true_true (lt-ltb _ _ g) (lt-ltb _ _ d))))
+          subst₂ P (sym (seat_below m k ps h)) (sym (seat_below m k qs g))
           (inl (record {
             one = c;
             two = d;
@@ -126,23 +110,11 @@ module _ (m : Room) (s : Together (tracking.Set m)) (k : Bool) (ps qs : List Pla
                 ∙ sym (mine_fails k f o _ (free_of k _ (first_holds (λ j. is_free (at qs j)) m.places d)));
           }))
 
-      -- both give up the same conversation, or have none to give up
+      -- none for a socket at its number
       above : number_of m k ≤ held_by k ps → P (seat_of m k ps) (seat_of m k qs)
       above h =
           let g : number_of m k ≤ held_by k qs = omega (arith, count_same) in
-          let same = first_same (λ j. is_oldest k ps (at ps j)) (λ j. is_oldest k qs (at ps j)) m.places (λ j i. oldest_same k ps qs v (at ps j)) in
-          subst₂ P (sym (seat_old m k ps (rw (le-ltb _ _ h)) ∙ same)) (sym (seat_old m k qs (rw (le-ltb _ _ g))))
-          (⊎_elim
-          (λ c.
-          let x = old_below ps a (is_oldest k qs) (oldest_of k qs) c.one in
-          let y = old_below qs b (is_oldest k qs) (oldest_of k qs) c.two in
-          inl (record {
-            one = omega (arith, x.0, x.1);
-            two = omega (arith, y.0, y.1);
-            same = λ f o. ap (λ (i : ℕ). f (at ps i)) x.1 ∙ ap f c.same ∙ sym (ap (λ (i : ℕ). f (at qs i)) y.1);
-          }))
-          (λ c. inr (record { one = old_none ps a (is_oldest k qs) c.one; two = old_none qs b (is_oldest k qs) c.two }))
-          (view_first k (is_oldest k qs) (oldest_of k qs) ps qs v (oldest_once k qs b.good.single)))
+          inr (record { one = omega (arith, seat_at m k ps h); two = omega (arith, seat_at m k qs g) })
 
   -- ---- the socket's own frame
 
@@ -225,7 +197,4 @@ module _ (k : Bool) (g : Turn) (ne : g.quad.second ≡ k → ⊥) where
       tracked_by m g ps (View k ps) (λ f o. refl)
       (λ i f h. view_other k ps (held_as g.quad f) i (holds_other (at ps i) h) (not_of k (held_as g.quad f) ne))
       (λ i h. view_other k ps free i (holds_other (at ps i) h) (free_of k free refl))
-      (λ i h none.
-      view_other k ps (held_as g.quad phase.Opening) i
-      (⊎_elim (λ w. free_of k (at ps i) w.0) (λ w. not_of k (at ps i) (λ e. ne (sym (of_is g.quad.second (at ps i) w).1 ∙ e))) h.from)
-      (not_of k (held_as g.quad phase.Opening) ne))
+      (λ i h none. view_other k ps (held_as g.quad phase.Opening) i (free_of k (at ps i) h.idle) (not_of k (held_as g.quad phase.Opening) ne))

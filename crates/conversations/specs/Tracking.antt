@@ -1,6 +1,6 @@
 -- Tracking: what a frame does to the places of the rule that decides it. Document 01, 'One frame, in this order', step 4.
 -- Assumes nothing.
-use Rattle.std.specs.Prelude.{ℕ, ◌+◌, ◌≤◌, Bool, cond, ◌&&◌, List, length, get_or, set, ltb}
+use Rattle.std.specs.Prelude.{ℕ, ◌+◌, ◌≤◌, Bool, cond, List, length, get_or, set, ltb}
 use Rattle.numbers.specs.Lists.{first}
 use Rattle.table.specs.declared.Tracking.{Tracking}
 use Rattle.table.specs.declared.Tracking.TheVariants as tracking
@@ -9,7 +9,6 @@ use Rattle.flags.specs.Flags.{next_of}
 use Rattle.table.specs.Table.{number_of}
 use Rattle.places.specs.Places.{Place, free, is_free, holds, held_by, phase_of, held_as, places_of}
 use Rattle.places.specs.declared.Quad.{Quad}
-use Rattle.conversations.specs.Choice.{oldest_at}
 use Rattle.flags.specs.declared.FlagKind.{FlagKind}
 use Rattle.flags.specs.declared.FlagKind.TheVariants as kind
 use Rattle.flags.specs.declared.Flags.{Flags}
@@ -45,16 +44,12 @@ moved q ps i next.No = record { progress = progress.NotInState; places = ps }
 abbrev pub free_at : List Place → ℕ → ℕ
 free_at ps n = first (λ j. is_free (get_or ps j free)) n
 
--- 7/12: an open frame "finds no free place, or its socket is at its number", or it does find one
-abbrev pub finds_free : Room → Bool → List Place → Bool
-finds_free m second ps = ltb (held_by second ps) (number_of m second) && ltb (free_at ps m.places) m.places
-
 -- the place for a new conversation of a socket, or the number of places where there is none. "a new conversation takes the first free place";
--- 7/12: else the oldest Closing conversation "gives up its place"
+-- 6/12: "a socket at its number gets verdict 5"
 abbrev pub seat_of : Room → Bool → List Place → ℕ
-seat_of m second ps = cond (finds_free m second ps) (free_at ps m.places) (oldest_at second ps m.places)
+seat_of m second ps = cond (ltb (held_by second ps) (number_of m second)) (free_at ps m.places) m.places
 
--- held as none: "Opening"; 7/12: "only if there is none is it verdict 5"; "the others stay"
+-- held as none: "Opening, or verdict 5 if no place is free"; "the others stay"
 abbrev pub opened : Room → Quad → List Place → Tracked
 opened m q ps =
     let i = seat_of m q.second ps in

@@ -1,5 +1,4 @@
 // One rule's conversations, each in a place: found, moved on, begun. Places are lent as words and changed in place.
-mod choice;
 mod scan;
 pub mod track;
 
@@ -20,6 +19,6 @@ pub enum Progress {
     WrongFlags,
     NoConversation,
     NotInState,
-    // No place is free, or the socket is at its number, and it has no Closing conversation.
+    // No place is free, or the socket is at its number.
     NoPlaceFree,
 }

@@ -1,12 +1,12 @@
-// The places of one rule as a lent slice of at most eight conversation structs, scanned for a quadruple, the first free place and the one to give up.
+// The places of one rule as a lent slice of at most eight conversation structs, scanned for a quadruple and for the first free place.
 ghost use Rattle.std.specs.Prelude.{◌≡◌, cond, map};
 ghost use Rattle.places.specs.Places.{place_of, places_of};
 ghost use Rattle.table.specs.Table.{most_places};
-ghost use Rattle.conversations.specs.Scan.{shown, seen_by, scan_from, nowhere, Finds};
+ghost use Rattle.conversations.specs.Tracking.{held_at, free_at};
+ghost use Rattle.conversations.specs.Scan.{shown, seen_by, scan_of};
 
-use crate::choice::is_older;
 use places::place::{quad, same_quad};
-use places::{AGE_BIT, HELD, KIND_BIT, PLACE_WORDS, PlaceWords, Quad, RulePlaces};
+use places::{HELD, KIND_BIT, PLACE_WORDS, PlaceWords, Quad, RulePlaces};
 use table::PLACES;
 
 // What the scan looks at in a place, free or held.
@@ -14,17 +14,13 @@ use table::PLACES;
 pub struct Conversation {
     pub state: u64,
     pub quad: Quad,
-    pub age: u64,
 }
 
-// The first place that holds the quadruple, the first free place, and that of the oldest Closing conversation of the quadruple's socket, which stands
-// beside it. Where there is none it is the number of places, and a free place stands beside it.
+// The first place that holds the quadruple and the first free place; the number of places where there is none.
 #[derive(Drop)]
 pub struct Found {
     pub held: usize,
     pub free: usize,
-    pub oldest: usize,
-    pub closing: Conversation,
 }
 
 // ---- the loader
@@ -35,7 +31,6 @@ fn read_place(w: PlaceWords) -> Conversation
     Conversation {
         state: w[HELD] % KIND_BIT,
         quad: quad(&w),
-        age: w[HELD] / AGE_BIT,
     }
 }
 
@@ -70,15 +65,6 @@ fn place_if(here: bool, i: usize, before: usize) -> usize
     before
 }
 
-fn older_if(older: bool, c: Conversation, before: Conversation) -> Conversation
-    ensures { result ≡ cond older c before }
-{
-    if older {
-        return c;
-    }
-    before
-}
-
 // One place is seen, at i, after what was found before it.
 pub(crate) fn seen(c: Conversation, q: Quad, found: Found, i: usize) -> Found
     ensures { result ≡ seen_by q c i found }
@@ -87,22 +73,18 @@ pub(crate) fn seen(c: Conversation, q: Quad, found: Found, i: usize) -> Found
     let taken = c.state != 0;
     let there = c.quad;
     let same = same_quad(q, there);
-    let closing = found.closing;
-    let older = is_older(q.second, c, closing);
     Found {
         held: place_if(taken & same & (i < found.held), i, found.held),
         free: place_if(vacant & (i < found.free), i, found.free),
-        oldest: place_if(older, i, found.oldest),
-        closing: older_if(older, c, closing),
     }
 }
 
-// The walk: the places in their order, each seen once, after what is found so far.
-pub(crate) fn scan(places: &[Conversation], q: Quad, start: Found) -> Found
-    ensures { result ≡ scan_from q 0 start places.now }
+// The walk: the places in their order, each seen once.
+pub(crate) fn scan(places: &[Conversation], q: Quad) -> Found
+    ensures { result ≡ scan_of q places.now }
 {
     let n = places.len();
-    let mut found = start;
+    let mut found = Found { held: n, free: n };
     let mut i: usize = 0;
     while i < n {
         found = seen(places[i], q, found, i);
@@ -112,25 +94,15 @@ pub(crate) fn scan(places: &[Conversation], q: Quad, start: Found) -> Found
 }
 
 // Lends its own array, so that callers hand the places by value and need no walk.
-pub(crate) fn scan_in(places: [Conversation; PLACES], q: Quad, start: Found) -> Found
-    ensures { result ≡ scan_from q 0 start places }
+pub(crate) fn scan_in(places: [Conversation; PLACES], q: Quad) -> Found
+    ensures { result ≡ scan_of q places }
 {
-    scan(&places[..], q, start)
-}
-
-fn nothing_found() -> Found
-    ensures { result ≡ nowhere most_places }
-{
-    Found {
-        held: PLACES,
-        free: PLACES,
-        oldest: PLACES,
-        closing: read_place([0; PLACE_WORDS]),
-    }
+    scan(&places[..], q)
 }
 
 pub(crate) fn find(q: Quad, row: &RulePlaces) -> Found
-    ensures { Finds q (places_of row.now) result }
+    ensures held { result.held ≡ held_at q (places_of row.now) }
+    ensures free { result.free ≡ free_at (places_of row.now) most_places }
 {
-    scan_in(load(row), q, nothing_found())
+    scan_in(load(row), q)
 }

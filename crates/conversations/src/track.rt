@@ -2,13 +2,12 @@
 ghost use Rattle.std.specs.Prelude.{◌≡◌, ◌<◌, ◌≤◌};
 ghost use Rattle.places.specs.Places.{place_of, places_of, free, held_as};
 ghost use Rattle.table.specs.Table.{most_places};
-ghost use Rattle.conversations.specs.Scan.{Finds};
-ghost use Rattle.conversations.specs.Tracking.{seat_of, moved, opened, begun, step_of, tracked_in, tracked_as};
+ghost use Rattle.conversations.specs.Tracking.{held_at, free_at, seat_of, moved, opened, begun, step_of, tracked_in, tracked_as};
 
-use crate::scan::{Found, find};
+use crate::scan::find;
 use crate::*;
 use flags::{FlagKind, Flags, Next, Phase, next_of};
-use places::place::{phase_of, place_words, state};
+use places::place::{no_quad, phase_of, place_words, state};
 use places::shape::tell_places;
 use places::sockets::held_by;
 use places::{PLACE_WORDS, PlaceWords, Quad, RulePlaces};
@@ -17,19 +16,34 @@ use table::{PLACES, Room};
 
 // ---- finding
 
-// The place for a new conversation: the first free one, for a socket below its number; else that of its oldest Closing conversation; as many as there are
-// where it has none.
-fn find_seat(m: Room, q: Quad, found: Found, ps: &RulePlaces) -> usize
-    requires room { m.places ≤ most_places }
-    requires found { Finds q (places_of ps.now) found }
-    ensures { result ≡ seat_of m q.second (places_of ps.now) }
+// The place that holds the quadruple, or PLACES.
+fn find_quad(q: Quad, ps: &RulePlaces) -> usize
+    ensures { result ≡ held_at q (places_of ps.now) }
 {
-    let second = q.second;
+    let found = find(q, ps);
+    found.held
+}
+
+// The first free place of n, or n. It is found whatever the quadruple.
+fn find_free(n: usize, ps: &RulePlaces) -> usize
+    requires { n ≤ most_places }
+    ensures { result ≡ free_at (places_of ps.now) n }
+{
+    let found = find(no_quad(false), ps);
+    if found.free < n { found.free } else { n }
+}
+
+// The place for a new conversation of a socket, or as many as there are: none for a socket at its number.
+fn find_seat(m: Room, second: bool, ps: &RulePlaces) -> usize
+    requires { m.places ≤ most_places }
+    ensures { result ≡ seat_of m second (places_of ps.now) }
+{
     let n = numbers::count8(m.places);
-    if (held_by(second, ps) < number_of(m, second)) & (found.free < n) {
-        return found.free;
+    if held_by(second, ps) < number_of(m, second) {
+        find_free(n, ps)
+    } else {
+        n
     }
-    if found.oldest < n { found.oldest } else { n }
 }
 
 // ---- what a frame does to the places
@@ -65,12 +79,11 @@ fn move_place(q: Quad, n: Next, i: usize, ps: &mut RulePlaces) -> Progress
 }
 
 // A new conversation takes its place.
-fn open_place(m: Room, q: Quad, found: Found, ps: &mut RulePlaces) -> Progress
-    requires room { m.places ≤ most_places }
-    requires found { Finds q (places_of ps.old) found }
+fn open_place(m: Room, q: Quad, ps: &mut RulePlaces) -> Progress
+    requires { m.places ≤ most_places }
     ensures { tracked_as result ps.new ≡ opened m q (places_of ps.old) }
 {
-    let i = find_seat(m, q, found, ps);
+    let i = find_seat(m, q.second, ps);
     if i < numbers::count8(m.places) {
         hold(q, Phase::Opening, &mut ps[i]);
         return Progress::Holds;
@@ -79,13 +92,12 @@ fn open_place(m: Room, q: Quad, found: Found, ps: &mut RulePlaces) -> Progress
 }
 
 // No such conversation is held: an open frame begins it.
-fn begin(m: Room, q: Quad, k: FlagKind, found: Found, ps: &mut RulePlaces) -> Progress
-    requires room { m.places ≤ most_places }
-    requires found { Finds q (places_of ps.old) found }
+fn begin(m: Room, q: Quad, k: FlagKind, ps: &mut RulePlaces) -> Progress
+    requires { m.places ≤ most_places }
     ensures { tracked_as result ps.new ≡ begun m q (places_of ps.old) k }
 {
     match k {
-        FlagKind::Open => open_place(m, q, found, ps),
+        FlagKind::Open => open_place(m, q, ps),
         FlagKind::Carry => Progress::NoConversation,
         FlagKind::End => Progress::NoConversation,
         FlagKind::Reset => Progress::NoConversation,
@@ -98,14 +110,13 @@ fn take_step(m: Room, q: Quad, k: FlagKind, ps: &mut RulePlaces) -> Progress
     ensures { tracked_as result ps.new ≡ step_of m q (places_of ps.old) k }
 {
     tell_places(*ps);
-    let found = find(q, ps);
-    let i = found.held;
+    let i = find_quad(q, ps);
     if i < PLACES {
         let f = phase_of(state(&ps[i]));
         let n = next_of(f, k);
         return move_place(q, n, i, ps);
     }
-    begin(m, q, k, found, ps)
+    begin(m, q, k, ps)
 }
 
 // The flags come first: wrong ones are told before a conversation is looked for.

@@ -24,7 +24,6 @@ use Rattle.records.specs.Good.{records_good}
 use Rattle.records.specs.Records.{Lent, records_of, words_of}
 use Rattle.flags.specs.Flags.{kind_of}
 use Rattle.places.specs.Places.{same_quad, holds, of_socket}
-use Rattle.conversations.specs.Choice.{is_closing, is_before, is_oldest}
 use Rattle.conversations.specs.Tracking.{step_of}
 use Rattle.places.specs.Ageing.{aged_place}
 use Rattle.verdicts.specs.Rule.{aged, decided, reacted}
@@ -156,7 +155,7 @@ unfolding outcomes
 outcomes_same l = λ i. map (λ x. map (λ steps. by_calls_same (words_of (fresh_of x.start)) steps (λ r. r) i) x.runs) l
 
 computed : outcomes_by_calls worked ≡ expectations worked
-unfolding be ones_add ones_sum first_from all_below tagged link_of ipv4_tests ipv4_here packet_at ipv6_tests ipv6_here ip_of unfragmented tcp_tests tcp_here udp_tests udp_here segment_at datagram_at transport_at transport_of message_tests message_here message_at cut_by someip_at someip_of layers_of too_short shown_of prefix_agrees marked bucket_of tracking_of rule_tests fresh_id faulty marks_good states_good fault_of score_of greatest best_of link_matches ip_matches transport_matches someip_matches layer_tests rule_matches decides decider_of record_tests record_good records_good records_of words_of aged_place aged kind_of same_address same_quad holds of_socket is_closing is_before is_oldest step_of decided reacted fresh_of ticked reacted_at acted array event_bytes mismatch_of event_for outcome_of judge_of go tell table_t hex frame_a padded with_type with_port frame0806 tcp ack1 syn_ack1 syn1 syn2 syn3 first13 tagged17 event_space m1 m2 m3 m4 rate_event m5 m6 connections_event m7 m8 m9 m10 m11 worked expectations
+unfolding be ones_add ones_sum first_from all_below tagged link_of ipv4_tests ipv4_here packet_at ipv6_tests ipv6_here ip_of unfragmented tcp_tests tcp_here udp_tests udp_here segment_at datagram_at transport_at transport_of message_tests message_here message_at cut_by someip_at someip_of layers_of too_short shown_of prefix_agrees marked bucket_of tracking_of rule_tests fresh_id faulty marks_good states_good fault_of score_of greatest best_of link_matches ip_matches transport_matches someip_matches layer_tests rule_matches decides decider_of record_tests record_good records_good records_of words_of aged_place aged kind_of same_address same_quad holds of_socket step_of decided reacted fresh_of ticked reacted_at acted array event_bytes mismatch_of event_for outcome_of judge_of go tell table_t hex frame_a padded with_type with_port frame0806 tcp ack1 syn_ack1 syn1 syn2 syn3 first13 tagged17 event_space m1 m2 m3 m4 rate_event m5 m6 connections_event m7 m8 m9 m10 m11 worked expectations
 computed = refl
 
 -- "M1 to M11 are proved as one list with one theorem"

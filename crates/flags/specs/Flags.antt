@@ -19,8 +19,7 @@ kind_of fin syn rst ack =
     (cond (every (fin ∷ ack ∷ not syn ∷ not rst ∷ [])) (flags.Kind kind.End)
     (cond (every (ack ∷ not fin ∷ not syn ∷ not rst ∷ [])) (flags.Kind kind.Carry) flags.Wrong)))
 
--- the table of the paper, held as Opening, Running, Closing: to which state, removed, or "a kind not allowed in the state held".
--- 7/12: "An open frame for a Closing quadruple restarts it as Opening in its place"
+-- the table of the paper, held as Opening, Running, Closing: to which state, removed, or "a kind not allowed in the state held"
 abbrev pub next_of : Phase → FlagKind → Next
 next_of phase.Opening kind.Open = next.To phase.Opening
 next_of phase.Opening kind.Carry = next.To phase.Running
@@ -30,7 +29,7 @@ next_of phase.Running kind.Open = next.No
 next_of phase.Running kind.Carry = next.To phase.Running
 next_of phase.Running kind.End = next.To phase.Closing
 next_of phase.Running kind.Reset = next.Removed
-next_of phase.Closing kind.Open = next.To phase.Opening
+next_of phase.Closing kind.Open = next.No
 next_of phase.Closing kind.Carry = next.To phase.Closing
 next_of phase.Closing kind.End = next.To phase.Closing
 next_of phase.Closing kind.Reset = next.Removed

@@ -98,7 +98,7 @@ pub fn next_of(f: Phase, k: FlagKind) -> Next
             FlagKind::Reset => Next::Removed,
         },
         Phase::Closing => match k {
-            FlagKind::Open => Next::To(Phase::Opening),
+            FlagKind::Open => Next::No,
             FlagKind::Carry => Next::To(Phase::Closing),
             FlagKind::End => Next::To(Phase::Closing),
             FlagKind::Reset => Next::Removed,

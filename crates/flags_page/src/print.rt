@@ -123,13 +123,8 @@ pub(crate) fn legend() {
     text(
         b"A segment that is not blocked passes; its conversation, if it is held then, has age 0.\n",
     );
-    text(
-        b"is opened   held as Opening in the rule's first free place; if none is free or its socket is\n",
-    );
-    text(
-        b"            at its number, in that of its socket's oldest Closing conversation, which is gone;\n",
-    );
-    text(b"            if it has none: blocked 5, event 61\n");
+    text(b"is opened   held as Opening in the rule's first free place;\n");
+    text(b"            if none is free or its socket is at its number: blocked 5, event 61\n");
     text(b"is removed  held no longer, and its place is free\n");
     text(b"blocked     40 wrong flags, 41 no such conversation, 42 not in this state: event 63,\n");
     text(b"            and the segment changes no conversation\n");

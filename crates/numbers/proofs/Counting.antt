@@ -1,15 +1,12 @@
 -- How many elements of a list pass a test. Assumes nothing.
 use Prim.Native.Nat.{ℕ, zero, suc, ◌+◌, ◌<◌, ◌≤◌}
-use native.Mathlib.Nat.{zero-add}
 use native.Mathlib.Omega.{arith}
 use mathlib.Core.Logic.{◌⊎◌, ⊎_elim}
-use mathlib.Core.Path.{◌≡◌, refl, sym, ap, ◌∙◌}
-use mathlib.Core.Bool.{Bool, true, false, cond, not}
+use mathlib.Core.Path.{◌≡◌, refl, ap, ◌∙◌}
+use mathlib.Core.Bool.{Bool, true, false, cond}
 use mathlib.Core.List.{List, [], ◌∷◌, map}
 use lib.ListN.{length, get_or, set}
-use lib.Dec.{eqb}
-use borrow.Author.Tests.{ne_eqb}
-use Rattle.numbers.specs.Lists.{every_of, count_of, count_below}
+use Rattle.numbers.specs.Lists.{count_of, count_below}
 use Rattle.numbers.proofs.Lists.{flag_le}
 use Rattle.numbers.proofs.Tests.{by_test}
 
@@ -54,11 +51,6 @@ module _ {A : Type 0} where
       let m : 1 ≤ 0 + count_of f l = rw e at h in
       let r = count_found f d l (omega arith) in
       record { place = suc r.place; within = let w = r.within in omega arith; passes = r.passes })
-
-  -- none passes where none counts
-  pub none_counts : (f : A → Bool) (l : List A) → every_of (λ x. not (f x)) l ≡ eqb (count_of f l) 0
-  none_counts f [] = refl
-  none_counts f (x ∷ l) = by_test (f x) (λ e. rw e (sym (ne_eqb (1 + count_of f l) 0 (λ z. omega (arith, z))))) (λ e. rw (e, zero-add (count_of f l)) (none_counts f l))
 
   -- none passes from n on: at most n do
   pub count_within : (f : A → Bool) (d : A) (n : ℕ) (l : List A) → ((i : ℕ) → n ≤ i → f (get_or l i d) ≡ false) → count_of f l ≤ n

@@ -45,7 +45,7 @@ pub record PlacesGood (m : Room) (ps : List Place) : Type 0 where
 
 -- ---- the tests and the facts
 
-pub once_single : (ps : List Place) → once ps ≡ true → Single ps
+once_single : (ps : List Place) → once ps ≡ true → Single ps
 once_single ps o q i j h k = by_less i j (λ m. absurd (no i j m h k)) (λ m. by_less j i (λ n. absurd (no j i n k h)) (λ n. omega arith))
   where
     no : (i j : ℕ) → i < j → holds q (at ps i) ≡ true → holds q (at ps j) ≡ true → ⊥

@@ -32,7 +32,7 @@ pub mine_fails : (k : Bool) (f : Place → Bool) → Mine k f → (p : Place) �
 mine_fails k f m p e = by_test (f p) (λ h. absurd (false≢true (sym e ∙ m p h))) (λ h. h)
 
 -- a test that a free place fails finds only places of the list
-pub inside : (f : Place → Bool) → f free ≡ false → (ps : List Place) (i : ℕ) → f (at ps i) ≡ true → i < length ps
+inside : (f : Place → Bool) → f free ≡ false → (ps : List Place) (i : ℕ) → f (at ps i) ≡ true → i < length ps
 inside f e ps i h =
     by_less i (length ps) (λ m. m) (λ m. absurd (false≢true (sym e ∙ ap f (sym (get_or-eq_default ps free m)) ∙ h)))
 

@@ -145,7 +145,7 @@ fn phase_word(f: Phase) -> u64
 }
 
 // The bit that says a kind, or a socket.
-pub fn bit(b: bool) -> u64
+fn bit(b: bool) -> u64
     ensures { result ≡ cond b 1 0 }
 {
     if b { 1 } else { 0 }

@@ -60,7 +60,7 @@ goes_on (next.To f) = true
 goes_on next.Removed = true
 goes_on next.No = false
 
--- its row "none": Opening, or verdict 5 where there is no place for it, free or given up (7/12), and 41 for the other kinds
+-- its row "none": "Opening, or verdict 5 if no place is free" (or the socket is at its number), and 41 for the other kinds
 abbrev pub opens : FlagKind → Bool
 opens kind.Open = true
 opens kind.Carry = false

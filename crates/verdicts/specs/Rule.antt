@@ -28,7 +28,7 @@ blocked_by_rule = 2
 abbrev pub over_rate : ℕ
 over_rate = 3
 
--- no place is free, or the socket is at its number, and none is given up: 7/12, "only if there is none is it verdict 5"
+-- "verdict 5 if no place is free"; 6/12: "a socket at its number gets verdict 5"
 abbrev pub no_place_free : ℕ
 no_place_free = 5
 

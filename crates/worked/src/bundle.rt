@@ -116,7 +116,7 @@ fn step(
         0,
         &mut space,
     );
-    let gap = page::beside(what, 0, answer, t, &space);
+    let gap = page::beside(what, answer, t, &space);
     shows(answer, &space, gap);
     text(b"\n");
 }

@@ -1,11 +1,10 @@
-// Judges M1 to M11 of the paper's worked set and prints them, a line for each frame; then wrong steps, bundles of messages, segments over IPv6,
-// frames on two sockets, closing places, wrong tables. Everything goes through the entry points.
+// Judges M1 to M11 of the paper's worked set and prints them, a line for each frame; then wrong steps, bundles of messages, segments over IPv6, frames on two sockets, wrong tables.
+// Everything goes through the entry points.
 mod bundle;
 mod expected;
 mod modem;
 mod page;
 mod print;
-mod renewal;
 mod rules;
 mod same;
 mod sockets;
@@ -154,8 +153,6 @@ fn main() {
     bundle::bundles(&t, &mut head, &mut counts, &mut places);
     modem::segments(&mut head, &mut counts, &mut places);
     sockets::both(&mut head, &mut counts, &mut places);
-    fresh(&t, &mut head, &mut counts, &mut places);
-    renewal::waited(&t, &mut head, &mut counts, &mut places);
     wrong::tables(&mut head, &mut counts, &mut places);
     words::settings();
 }

@@ -107,7 +107,7 @@ fn step(
         0,
         &mut space,
     );
-    let gap = page::beside(what, 0, answer, t, &space);
+    let gap = page::beside(what, answer, t, &space);
     page::records(t, counts, places, SOCKET, gap);
 }
 

@@ -67,17 +67,11 @@ pub(crate) fn answered(answer: Judged, t: &TableWords, space: &[u8; ROOM]) -> us
     }
 }
 
-// A line beside the worked set: what came at a reading, and what was answered.
-pub(crate) fn beside(
-    what: &[u8],
-    reading: u64,
-    answer: Judged,
-    t: &TableWords,
-    space: &[u8; ROOM],
-) -> usize {
+// A line beside the worked set: what came at reading 0, and what was answered.
+pub(crate) fn beside(what: &[u8], answer: Judged, t: &TableWords, space: &[u8; ROOM]) -> usize {
     spaces(5);
     left(what, 30);
-    right(reading, 7);
+    right(0, 7);
     text(b"  ");
     answered(answer, t, space)
 }

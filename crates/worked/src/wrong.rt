@@ -11,13 +11,13 @@ use table::words::{ROW_WORDS, ROWS, TableWords};
 use table::*;
 
 // Where the flags of an untagged TCP frame without IP options stand.
-pub(crate) const FLAGS: usize = 47;
+const FLAGS: usize = 47;
 
-pub(crate) const FIN: u8 = 1;
+const FIN: u8 = 1;
 
-pub(crate) const SYN: u8 = 2;
+const SYN: u8 = 2;
 
-pub(crate) const ACK: u8 = 16;
+const ACK: u8 = 16;
 
 // One frame from 443 to 50001 with these flags.
 fn step(
@@ -33,7 +33,7 @@ fn step(
     bytes[FLAGS] = flags;
     let mut space = [0u8; ROOM];
     let answer = firewall::judge(t, head, counts, places, SOCKET, &bytes[0..n], 0, &mut space);
-    let gap = page::beside(what, 0, answer, t, &space);
+    let gap = page::beside(what, answer, t, &space);
     page::records(t, counts, places, SOCKET, gap);
 }
 

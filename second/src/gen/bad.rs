@@ -130,7 +130,9 @@ impl<W: Write> Gen<W> {
     }
 
     /// Bad records: by another table put under them, or by an image, which is the longer of the two.
-    pub(super) fn bad_records(&mut self, fault: &'static str, good: &Table, tables: u64) -> io::Result<()> {
+    pub(super) fn bad_records(&mut self, good: &Table, tables: u64) -> io::Result<()> {
+        let fault = RECORD_FAULTS[self.record_fault % RECORD_FAULTS.len()];
+        self.record_fault += 1;
         if records::check(good, &self.records).is_err() {
             self.fresh(self.now)?;
         }
@@ -148,7 +150,6 @@ impl<W: Write> Gen<W> {
             let mut records = self.records.clone();
             if spoil_records(&mut records, good, fault, &mut self.random).is_none() {
                 // This table gives no room for the fault; another one will.
-                self.without_room.push(fault);
                 return Ok(());
             }
             self.put_records(&records)?;

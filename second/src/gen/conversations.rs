@@ -57,7 +57,7 @@ impl<W: Write> Gen<W> {
         self.random.pick(&from)
     }
 
-    pub(super) fn slot_held_as(&mut self, place: usize, held: u8) -> Option<usize> {
+    fn slot_held_as(&mut self, place: usize, held: u8) -> Option<usize> {
         let slots: Vec<usize> = (0..PLACES).filter(|slot| self.records.held[place][*slot] == held).collect();
         if held == FREE || slots.is_empty() {
             None

@@ -136,13 +136,13 @@ impl<W: Write> Gen<W> {
         self.send_on(socket, &draft, draft.flags)
     }
 
-    pub(super) fn send_on(&mut self, socket: u8, draft: &Draft, flags: u8) -> io::Result<()> {
+    fn send_on(&mut self, socket: u8, draft: &Draft, flags: u8) -> io::Result<()> {
         self.socket = socket;
         let frame = Draft { flags, ..draft.clone() }.bytes(&mut self.random);
         self.judge_in(&frame, SPACE)
     }
 
-    pub(super) fn short_draft(&mut self, place: usize) -> Draft {
+    fn short_draft(&mut self, place: usize) -> Draft {
         let mut draft = aim(&self.table.rules[place], &mut self.random);
         draft.tags.truncate(1);
         draft.messages.truncate(2);

@@ -1,5 +1,5 @@
 -- `conversations::scan::scan` meets its contract: a walk of its MIR, by hand, with a loop that reads one struct of the slice and calls `seen` on it.
--- The loop's state is how many places are seen, and what is found so far. The slice is looked into in each turn and shut again before the call.
+-- The loop's state is how many places are seen, and what is found among them. The slice is looked into in each turn and shut again before the call.
 -- Assumes nothing.
 use mathlib.Core.Path.{◌≡◌, refl, sym}
 use mathlib.Core.Bool.{Bool, true, false}
@@ -57,7 +57,7 @@ use types.Kit.{
   await,
   done,
 }
-use types.Part.{whole, sub, look_in}
+use types.Part.{whole, sub, look_in, agg}
 use types.Run.{
   look,
   look_raw,
@@ -116,7 +116,7 @@ use denote.Triple.Spec.{Meets, triple_of}
 use denote.Triple.Table.{entered, cited}
 use denote.Triple.Walked.{says, Stays, stay_dropped, walk_of, Goes-dropped, Walks, ends_at, walked, walk_Meets}
 use denote.Exit.{yes}
-use Rattle.conversations.specs.Scan.{seen_by, scan_from}
+use Rattle.conversations.specs.Scan.{seen_by, nowhere, scan_of}
 use Rattle.places.specs.declared.Quad.{Quad}
 use Rattle.conversations.specs.declared.scan.Conversation.{Conversation}
 use Rattle.conversations.specs.declared.scan.Found.{Found}
@@ -138,7 +138,7 @@ use Rattle.conversations.proofs.scan.scan.Code as code
 use Rattle.conversations.proofs.scan.scan.Code.Mir as steps
 
 abbrev stayed : Stays (scan.ended).signature.params (scan.ended).kept
-stayed = (stay_dropped (shr_slice_of (0 ∷ []) tt (plain (λ _. T.the_row))) yes, (stay_dropped (plain (λ _. Q.the_row)) yes, (stay_dropped (plain (λ _. F.the_row)) yes, tt)))
+stayed = (stay_dropped (shr_slice_of (0 ∷ []) tt (plain (λ _. T.the_row))) yes, (stay_dropped (plain (λ _. Q.the_row)) yes, tt))
 
 abbrev val : Conversation → Val
 val = LL.val T.the_type T'.the_laws
@@ -148,6 +148,9 @@ qval = LL.val Q.the_type Q'.the_laws
 
 abbrev fval : Found → Val
 fval = LL.val F.the_type F'.the_laws
+
+start-made : (n : ℕ) → n < 2 ^ 64 → Is F.the_row (nowhere n) (fval (nowhere n) ∷ [])
+start-made n g = LL.owes F.the_type F'.the_laws (nowhere n) ((refl, g), ((refl, g), tt))
 
 -- the byte offset of element i does not wrap
 offset-fits : (n i : ℕ) → Room T.the_row n → i < n → i * (mem T.the_row).size < 2 ^ 64
@@ -173,25 +176,25 @@ module _ {M : Type 1} {𝓤 : Ura M} (𝓛 : Logic 𝓤) (mem' : Memory → SPro
   abbrev Seen : Contract 𝓤
   Seen = triple_of 𝓛 seen.signature (seen.spec 𝓛 mem' run)
 
-module _ {M : Type 1} {𝓤 : Ura M} (𝓛 : Logic 𝓤) (mem' : Memory → SProp 𝓤) (run : Routine → Fun 𝓤) (κ : Lft) (q : Share) (b o : ℕ) (γ : GName) (ys : List Conversation) (d : Quad) (start : Found) where
+module _ {M : Type 1} {𝓤 : Ura M} (𝓛 : Logic 𝓤) (mem' : Memory → SProp 𝓤) (run : Routine → Fun 𝓤) (κ : Lft) (q : Share) (b o : ℕ) (γ : GName) (ys : List Conversation) (d : Quad) where
   open 𝓛 use {H}
 
   abbrev n : ℕ
   n = length ys
 
-  abbrev x : Bor (List Conversation) × (Quad × (Found × Unit {0}))
-  x = (record { ref_ptr = (b, o); now = ys }, (d, (start, tt)))
+  abbrev x : Bor (List Conversation) × (Quad × Unit {0})
+  x = (record { ref_ptr = (b, o); now = ys }, (d, tt))
 
   abbrev at : Vals scan.signature (κ, tt)
-  at = (slice_val (b, o) n ∷ [], (qval d ∷ [], (fval start ∷ [], tt)))
+  at = (slice_val (b, o) n ∷ [], (qval d ∷ [], tt))
 
   abbrev Post : Val → SProp 𝓤
   Post = (walk_of 𝓛 scan.ended stayed (scan.clauses 𝓛 mem' run)).post (((κ, tt), (q, tt), tt, x, at), tt)
 
-  exits : (r : Found) (u : Val) → Is F.the_row r (u ∷ []) → r ≡ scan_from d 0 start ys → ent 𝓤 (⋆ 𝓛 (‵ (flft κ q) ∷ [])) (Post u)
+  exits : (r : Found) (u : Val) → Is F.the_row r (u ∷ []) → r ≡ scan_of d ys → ent 𝓤 (⋆ 𝓛 (‵ (flft κ q) ∷ [])) (Post u)
   exits r u is e =
-      qed 𝓛 (‵ (flft κ q) ∷ []) ∵ suffices ! _ (ends_at 𝓛 scan.ended stayed (scan.clauses 𝓛 mem' run) (((κ, tt), (q, tt), tt, x, at), tt) u r (tt, (tt, (tt, tt))) (tt, (tt, (tt, tt)))) $ says ! e $
-      owned ! F.the_row (Is F.the_row) (LL.makes F.the_type F'.the_plain 𝓛) r _ is $ nothing ! $ nothing ! $ fjoin ! $ nothing ! $ fjoin ! $ nothing ! $ fjoin ! $ nothing ! $ move ! (3 ∷ 0 ∷ []) $ join ! $ done !
+      qed 𝓛 (‵ (flft κ q) ∷ []) ∵ suffices ! _ (ends_at 𝓛 scan.ended stayed (scan.clauses 𝓛 mem' run) (((κ, tt), (q, tt), tt, x, at), tt) u r (tt, (tt, tt)) (tt, (tt, tt))) $ says ! e $
+      owned ! F.the_row (Is F.the_row) (LL.makes F.the_type F'.the_plain 𝓛) r _ is $ nothing ! $ nothing ! $ fjoin ! $ nothing ! $ fjoin ! $ nothing ! $ move ! (3 ∷ 0 ∷ []) $ join ! $ done !
 
   -- the call of `seen`, at the place p, at what is found, f with the machine value v, and at i
   abbrev to-seen : Conversation → Found → Val → ℕ → (Seen 𝓛 mem' run).Ghost
@@ -210,14 +213,14 @@ module _ {M : Type 1} {𝓤 : Ura M} (𝓛 : Logic 𝓤) (mem' : Memory → SPro
   seen-said : (p : Conversation) (f : Found) (i : ℕ) (r : Found) → ent 𝓤 (ensured 𝓛 seen.ended (seen.clauses 𝓛 mem' run) tt (p, (d, (f, (i, tt)))) tt r) (fact 𝓤 (r ≡ seen_by d p i f))
   seen-said p f i r = ex_e 𝓤 _ (λ ws. snd∗ 𝓤 (sem 𝓛 (lasts seen.ended tt (p, (d, (f, (i, tt)))) ws)) (fact 𝓤 (r ≡ seen_by d p i f)))
 
-  -- where the loop stands: i places are seen, and f, with the machine value v, is found so far
+  -- where the loop stands: i places are seen, and f, with the machine value v, is found among them
   record State : Type 0 where
     pub i : ℕ
     pub f : Found
     pub v : Val
     pub is : Is F.the_row f (v ∷ [])
     pub le : i ≤ n
-    pub so : Upto d start ys i f
+    pub so : Upto d ys i f
 
   -- the place that the next turn reads
   abbrev pl : State → Conversation
@@ -229,7 +232,7 @@ module _ {M : Type 1} {𝓤 : Ura M} (𝓛 : Logic 𝓤) (mem' : Memory → SPro
   Nearer-wf : WellFounded Nearer
   Nearer-wf = InvImage.wf (λ (s : State). n - s.i) lt-wf_rel.wf
 
-  module _ (𝓣 : Tables 𝓤 H) (known : Triple 𝓤 (𝓣.C #seen) (Seen 𝓛 mem' run)) (gn : Room T.the_row n) (dq : Is Q.the_row d (qval d ∷ [])) (is₀ : Is F.the_row start (fval start ∷ [])) (l₀ l₁ l₂ l₃ l₄ l₅ l₆ l₇ l₈ l₉ l₁₀ : ℕ) where
+  module _ (𝓣 : Tables 𝓤 H) (known : Triple 𝓤 (𝓣.C #seen) (Seen 𝓛 mem' run)) (gn : Room T.the_row n) (dq : Is Q.the_row d (qval d ∷ [])) (l₀ l₁ l₂ l₃ l₄ l₅ l₆ l₇ l₈ l₉ : ℕ) where
     abbrev C : Calls 𝓤 H
     C = 𝓣.C
 
@@ -237,16 +240,16 @@ module _ {M : Type 1} {𝓤 : Ura M} (𝓛 : Logic 𝓤) (mem' : Memory → SPro
     Λ = 𝓣.Λ
 
     abbrev En : Env 𝓤 H
-    En = (F'.mir, l₀) ∷ (slice, l₁) ∷ (Q'.mir, l₂) ∷ (F'.mir, l₃) ∷ (word, l₄) ∷ (F'.mir, l₅) ∷ (word, l₆) ∷ (ty_bool, l₇) ∷ (word, l₈) ∷ (ty_ptr, l₉) ∷ (T'.mir, l₁₀) ∷ []
+    En = (F'.mir, l₀) ∷ (slice, l₁) ∷ (Q'.mir, l₂) ∷ (word, l₃) ∷ (F'.mir, l₄) ∷ (word, l₅) ∷ (ty_bool, l₆) ∷ (word, l₇) ∷ (ty_ptr, l₈) ∷ (T'.mir, l₉) ∷ []
 
-    abbrev begun : State
-    begun = record { i = 0; f = start; v = fval start; is = is₀; le = omega arith; so = at_start_lem d start ys }
+    abbrev start : State
+    start = record { i = 0; f = nowhere n; v = fval (nowhere n); is = start-made n gn.0; le = omega arith; so = at_start_lem d ys }
 
     -- the invariant: the locals, the last first; the fractured borrow of the elements; and the token
     abbrev At : State → List (Item 𝓤)
-    At s = ‵ (froom T'.mir l₁₀ 0) ∷ ‵ (fdies T'.mir l₁₀) ∷ ‵ (froom ty_ptr l₉ 0) ∷ ‵ (fdies ty_ptr l₉) ∷ ‵ (froom word l₈ 0) ∷ ‵ (fdies word l₈) ∷ ‵ (froom ty_bool l₇ 0) ∷ ‵ (fdies ty_bool l₇)
-        ∷ ‵ (fat full_share word l₆ 0 (vint w64 s.i)) ∷ ‵ (fdies word l₆) ∷ ‵ (fat full_share F'.mir l₅ 0 s.v) ∷ ‵ (fdies F'.mir l₅) ∷ ‵ (fat full_share word l₄ 0 (vint w64 n)) ∷ ‵ (fdies word l₄)
-        ∷ ‵ (fat full_share F'.mir l₃ 0 (fval start)) ∷ ‵ (fdies F'.mir l₃) ∷ ‵ (fat full_share Q'.mir l₂ 0 (qval d)) ∷ ‵ (fdies Q'.mir l₂) ∷ ‵ (fat full_share slice l₁ 0 (slice_val (b, o) n)) ∷ ‵ (fdies slice l₁) ∷ ‵ (froom F'.mir l₀ 0) ∷ ‵ (fdies F'.mir l₀)
+    At s = ‵ (froom T'.mir l₉ 0) ∷ ‵ (fdies T'.mir l₉) ∷ ‵ (froom ty_ptr l₈ 0) ∷ ‵ (fdies ty_ptr l₈) ∷ ‵ (froom word l₇ 0) ∷ ‵ (fdies word l₇) ∷ ‵ (froom ty_bool l₆ 0) ∷ ‵ (fdies ty_bool l₆)
+        ∷ ‵ (fat full_share word l₅ 0 (vint w64 s.i)) ∷ ‵ (fdies word l₅) ∷ ‵ (fat full_share F'.mir l₄ 0 s.v) ∷ ‵ (fdies F'.mir l₄) ∷ ‵ (fat full_share word l₃ 0 (vint w64 n)) ∷ ‵ (fdies word l₃)
+        ∷ ‵ (fat full_share Q'.mir l₂ 0 (qval d)) ∷ ‵ (fdies Q'.mir l₂) ∷ ‵ (fat full_share slice l₁ 0 (slice_val (b, o) n)) ∷ ‵ (fdies slice l₁) ∷ ‵ (froom F'.mir l₀ 0) ∷ ‵ (fdies F'.mir l₀)
         ∷ ‵ (fshr_bor κ (λ z. (arr_parts (shares T.the_row) n).part z ys b o)) ∷ ‵ (flft κ q) ∷ []
 
     -- a turn's postcondition: it ends nearer to the end, or the loop is left and the rest of the body runs
@@ -257,71 +260,67 @@ module _ {M : Type 1} {𝓤 : Ura M} (𝓛 : Logic 𝓤) (mem' : Memory → SPro
     unfolding after_turn
     turn_at s true e =
         assigns ! (bin ! (load ! (from ! (stop !)) (look ! 8 refl)) (load ! (from ! (stop !)) (look ! 12 refl)) tt) (from ! (stop !)) (init ! 6 refl (tt, tt)) $
-        rewrite ! 6 (λ (t : Bool). ‵ (fat full_share ty_bool l₇ 0 (vbool t))) e refl $ stays ! (load ! (from ! (stop !)) (look ! 6 refl)) $
+        rewrite ! 6 (λ (t : Bool). ‵ (fat full_share ty_bool l₆ 0 (vbool t))) e refl $ stays ! (load ! (from ! (stop !)) (look ! 6 refl)) $
         assigns ! (bin ! (load ! (from ! (stop !)) (look ! 8 refl)) (lit ! tt) (record { fits = offset-fits n s.i gn l })) (from ! (stop !)) (init ! 4 refl (tt, record { fits = offset-fits n s.i gn l })) $
-        assigns ! (bin ! (load ! (from ! (fld ! refl (stop !))) (look_in ! 18 (sub ! 0 refl (whole !)))) (load ! (from ! (stop !)) (look ! 4 refl)) tt) (from ! (stop !)) (init ! 2 refl (tt, tt)) $
-        rewrite ! 2 (λ (p : ℕ). ‵ (fat full_share ty_ptr l₉ 0 (vptr b p))) (sym (place_is (mem T.the_row).size o s.i)) refl $
-        move ! (22 ∷ 23 ∷ []) $
+        assigns ! (bin ! (load ! (from ! (fld ! refl (stop !))) (look_in ! 16 (sub ! 0 refl (whole !)))) (load ! (from ! (stop !)) (look ! 4 refl)) tt) (from ! (stop !)) (init ! 2 refl (tt, tt)) $
+        rewrite ! 2 (λ (p : ℕ). ‵ (fat full_share ty_ptr l₈ 0 (vptr b p))) (sym (place_is (mem T.the_row).size o s.i)) refl $
+        move ! (20 ∷ 21 ∷ []) $
         looks_slice ! tt T.the_row (Is T.the_row) (shows 𝓛 T.the_row) (LL.vals T.the_type T'.the_laws) (LL.tells T.the_type T'.the_laws) (LL.copy T.the_type T'.the_copy 𝓛) ys b o (λ q'.
         elem_out ! T.the_row (Is T.the_row) (shows 𝓛 T.the_row) (LL.vals T.the_type T'.the_laws) (LL.tells T.the_type T'.the_laws) q' ys s.i empty b o l (λ g.
-        -- [places[i]; what it owns; the others; what shuts; the fractured borrow; _10; …; _9; …; _8; …; _7; …; _6; …; _5; …; _4; …; _3; …; _2; …; _1; …; _0; …]
+        -- [places[i]; what it owns; the others; what shuts; the fractured borrow; _9; …; _8; …; _7; …; _6; …; _5; …; _4; …; _3; …; _2; …; _1; …; _0; …]
         assigns ! (of_opd ! (load ! (from ! (hop ! (look ! 7 refl) (stop !))) (look_raw ! 0 refl))) (from ! (stop !)) (init ! 5 refl ((LL.lawful T.the_type T'.the_laws 𝓛).typed (pl s) _ g).0) $
         elem_back ! T.the_row q' ys s.i empty (val (pl s) ∷ []) b o l $ shuts_slice ! tt T.the_row q' ys b o $
-        -- [the token; the fractured borrow; _10; …; _9; …; _8; …; _7; …; _6; …; _5; …; _4; …; _3; …; _2; …; _1; …; _0; …]
+        -- [the token; the fractured borrow; _9; …; _8; …; _7; …; _6; …; _5; …; _4; …; _3; …; _2; …; _1; …; _0; …]
         nothing ! $ use1 𝓛 (raw ((Seen 𝓛 mem' run).pre (to-seen (pl s) s.f s.v s.i))) (goes-seen (pl s) s.f s.v s.i g dq s.is (i-fits n s.i gn s.le)) $
         calls_at ! (fm_of 𝓤 H 𝓛.laws 𝓣) (Seen 𝓛 mem' run) known (to-seen (pl s) s.f s.v s.i)
-        (and_then ! (load ! (from ! (stop !)) (look ! 3 refl)) (and_then ! (load ! (from ! (stop !)) (look ! 19 refl)) (and_then ! (load ! (from ! (stop !)) (look ! 13 refl)) (and_then ! (load ! (from ! (stop !)) (look ! 11 refl)) (no_more !))))) (λ u.
+        (and_then ! (load ! (from ! (stop !)) (look ! 3 refl)) (and_then ! (load ! (from ! (stop !)) (look ! 17 refl)) (and_then ! (load ! (from ! (stop !)) (look ! 13 refl)) (and_then ! (load ! (from ! (stop !)) (look ! 11 refl)) (no_more !))))) (λ u.
         use1 𝓛 (later (some (λ (r : Found). (‵ ftrue ⊛ ‵ ((F.the_row).own_val r (u ∷ []))) ⊛ raw (ensured 𝓛 seen.ended (seen.clauses 𝓛 mem' run) tt (pl s, (d, (s.f, (s.i, tt)))) tt r)))) (id⊢ 𝓤 _) $ await ! tt $ pick ! (λ r.
         split ! $ move ! (1 ∷ []) $ use1 𝓛 (raw (fact 𝓤 (r ≡ seen_by d (pl s) s.i s.f))) (seen-said (pl s) s.f s.i r) $ heard ! (r ≡ seen_by d (pl s) s.i s.f) (λ e'. split ! $ drop ! $
         peeks ! F.the_row (Is F.the_row) (shows 𝓛 F.the_row) r (u ∷ []) (λ is.
-        -- [the result's; the token; the fractured borrow; _10; …; _9; …; _8; …; _7; …; _6; …; _5; …; _4; …; _3; …; _2; …; _1; …; _0; …]
+        -- [the result's; the token; the fractured borrow; _9; …; _8; …; _7; …; _6; …; _5; …; _4; …; _3; …; _2; …; _1; …; _0; …]
         land ! (from ! (stop !)) (store ! 13 refl ((LL.lawful F.the_type F'.the_laws 𝓛).typed r _ is).0) $
         assigns_last ! (bin ! (load ! (from ! (stop !)) (look ! 11 refl)) (lit ! tt) (record { fits = next_fits n s.i gn l })) (from ! (stop !)) (store ! 11 refl (tt, record { fits = next_fits n s.i gn l })) $
         forget ! 3 refl $ forget ! 5 refl $ forget ! 7 refl $ forget ! 9 refl $
-        keep ! (3 ∷ 4 ∷ 5 ∷ 6 ∷ 7 ∷ 8 ∷ 9 ∷ 10 ∷ 11 ∷ 12 ∷ 13 ∷ 14 ∷ 15 ∷ 16 ∷ 17 ∷ 18 ∷ 19 ∷ 20 ∷ 21 ∷ 22 ∷ 23 ∷ 24 ∷ 2 ∷ 1 ∷ []) $
-        again ! Nearer At s (record { i = s.i + 1; f = r; v = u; is = is; le = omega (arith, l); so = one_more_lem d start ys s.i s.f r l s.so e' }) (nearer n s.i l)))))))
+        keep ! (3 ∷ 4 ∷ 5 ∷ 6 ∷ 7 ∷ 8 ∷ 9 ∷ 10 ∷ 11 ∷ 12 ∷ 13 ∷ 14 ∷ 15 ∷ 16 ∷ 17 ∷ 18 ∷ 19 ∷ 20 ∷ 21 ∷ 22 ∷ 2 ∷ 1 ∷ []) $
+        again ! Nearer At s (record { i = s.i + 1; f = r; v = u; is = is; le = omega (arith, l); so = one_more_lem d ys s.i s.f r l s.so e' }) (nearer n s.i l)))))))
       where
         l : s.i < n
         l = ltb-true _ _ e
     turn_at s false e =
         assigns ! (bin ! (load ! (from ! (stop !)) (look ! 8 refl)) (load ! (from ! (stop !)) (look ! 12 refl)) tt) (from ! (stop !)) (init ! 6 refl (tt, tt)) $
-        rewrite ! 6 (λ (t : Bool). ‵ (fat full_share ty_bool l₇ 0 (vbool t))) e refl $ leaves_loop ! (load ! (from ! (stop !)) (look ! 6 refl)) $ exec ! C Λ En steps.t-5 (at_ret En Post) $
-        assigns ! (of_opd ! (load ! (from ! (stop !)) (look ! 10 refl))) (from ! (stop !)) (init ! 20 refl ((LL.lawful F.the_type F'.the_laws 𝓛).typed s.f _ s.is).0) $
-        returns ! (look ! 20 refl) $ forget ! 6 refl $ forget ! 8 refl $ forget ! 10 refl $ forget ! 12 refl $ forget ! 14 refl $ forget ! 16 refl $ forget ! 18 refl $ forget ! 20 refl $
-        move ! (20 ∷ 21 ∷ []) $ free1 ! $ move ! (18 ∷ 19 ∷ []) $ free1 ! $ move ! (16 ∷ 17 ∷ []) $ free1 ! $ move ! (14 ∷ 15 ∷ []) $ free1 ! $ move ! (12 ∷ 13 ∷ []) $ free1 ! $ move ! (10 ∷ 11 ∷ []) $ free1 ! $ move ! (8 ∷ 9 ∷ []) $ free1 ! $ move ! (6 ∷ 7 ∷ []) $ free1 ! $ move ! (4 ∷ 5 ∷ []) $ free1 ! $ move ! (2 ∷ 3 ∷ []) $ free1 ! $ free1 ! $ free0 ! $
-        keep ! (1 ∷ []) $ by ! (exits s.f s.v s.is (at_end_lem d start ys s.i s.f (ltb-false _ _ e) s.so))
+        rewrite ! 6 (λ (t : Bool). ‵ (fat full_share ty_bool l₆ 0 (vbool t))) e refl $ leaves_loop ! (load ! (from ! (stop !)) (look ! 6 refl)) $ exec ! C Λ En steps.t-5 (at_ret En Post) $
+        assigns ! (of_opd ! (load ! (from ! (stop !)) (look ! 10 refl))) (from ! (stop !)) (init ! 18 refl ((LL.lawful F.the_type F'.the_laws 𝓛).typed s.f _ s.is).0) $
+        returns ! (look ! 18 refl) $ forget ! 6 refl $ forget ! 8 refl $ forget ! 10 refl $ forget ! 12 refl $ forget ! 14 refl $ forget ! 16 refl $ forget ! 18 refl $
+        move ! (18 ∷ 19 ∷ []) $ free1 ! $ move ! (16 ∷ 17 ∷ []) $ free1 ! $ move ! (14 ∷ 15 ∷ []) $ free1 ! $ move ! (12 ∷ 13 ∷ []) $ free1 ! $ move ! (10 ∷ 11 ∷ []) $ free1 ! $ move ! (8 ∷ 9 ∷ []) $ free1 ! $ move ! (6 ∷ 7 ∷ []) $ free1 ! $ move ! (4 ∷ 5 ∷ []) $ free1 ! $ move ! (2 ∷ 3 ∷ []) $ free1 ! $ free1 ! $ free0 ! $
+        keep ! (1 ∷ []) $ by ! (exits s.f s.v s.is (at_end_lem d ys s.i s.f (ltb-false _ _ e) s.so))
 
-    looped : Sq 𝓛 (At begun) (runs C Λ En steps.t-4 (at_ret En Post))
-    looped = first ! $ blocks ! $ loops ! 𝓣 Nearer Nearer-wf At (λ s. turn_at s (ltb s.i n) refl) begun
+    looped : Sq 𝓛 (At start) (runs C Λ En steps.t-4 (at_ret En Post))
+    looped = first ! $ blocks ! $ loops ! 𝓣 Nearer Nearer-wf At (λ s. turn_at s (ltb s.i n) refl) start
 
-  walk : (𝓣 : Tables 𝓤 H) → Triple 𝓤 (𝓣.C #seen) (Seen 𝓛 mem' run) → Room T.the_row n → Is Q.the_row d (qval d ∷ []) → Is F.the_row start (fval start ∷ [])
-      → ent 𝓤 (on_entry 𝓛 scan.signature (κ, tt) (q, tt) x at) (WpFn 𝓤 H 𝓣.C 𝓣.Λ code.function (slice_val (b, o) n ∷ qval d ∷ fval start ∷ []) Post)
-  walk 𝓣 known gn dq is₀ =
-      qed 𝓛 ((‵ (flft κ q) ⊛ ‵ ftrue) ∷ ‵ (owns (ShrSlice (named 0) κ T.the_row ∷ Q.the_row ∷ F.the_row ∷ []) x at) ∷ []) ∵ enter ! 𝓣.C 𝓣.Λ code.function (slice_val (b, o) n ∷ qval d ∷ fval start ∷ []) _ $
-      alloc1 ! (λ l₀. alloc1 ! (λ l₁. alloc1 ! (λ l₂. alloc1 ! (λ l₃. alloc1 ! (λ l₄. alloc1 ! (λ l₅. alloc1 ! (λ l₆. alloc1 ! (λ l₇. alloc1 ! (λ l₈. alloc1 ! (λ l₉. alloc1 ! (λ l₁₀. alloc0 ! $ params1 ! $
-      pass1 ! (init ! 18 refl (tt, (tt, (record { fits = gn.0 }, tt)))) $ pass1 ! (init ! 16 refl ((LL.lawful Q.the_type Q'.the_laws 𝓛).typed d _ dq).0) $ pass1 ! (init ! 14 refl ((LL.lawful F.the_type F'.the_laws 𝓛).typed start _ is₀).0) $ pass0 ! $
-      assigns ! (of_opd ! (load ! (from ! (fld ! refl (stop !))) (look_in ! 18 (sub ! 1 refl (whole !))))) (from ! (stop !)) (init ! 12 refl (tt, record { fits = gn.0 })) $
-      assigns ! (of_opd ! (load ! (from ! (stop !)) (look ! 14 refl))) (from ! (stop !)) (init ! 10 refl ((LL.lawful F.the_type F'.the_laws 𝓛).typed start _ is₀).0) $
+  walk : (𝓣 : Tables 𝓤 H) → Triple 𝓤 (𝓣.C #seen) (Seen 𝓛 mem' run) → Room T.the_row n → Is Q.the_row d (qval d ∷ [])
+      → ent 𝓤 (on_entry 𝓛 scan.signature (κ, tt) (q, tt) x at) (WpFn 𝓤 H 𝓣.C 𝓣.Λ code.function (slice_val (b, o) n ∷ qval d ∷ []) Post)
+  walk 𝓣 known gn dq =
+      qed 𝓛 ((‵ (flft κ q) ⊛ ‵ ftrue) ∷ ‵ (owns (ShrSlice (named 0) κ T.the_row ∷ Q.the_row ∷ []) x at) ∷ []) ∵ enter ! 𝓣.C 𝓣.Λ code.function (slice_val (b, o) n ∷ qval d ∷ []) _ $
+      alloc1 ! (λ l₀. alloc1 ! (λ l₁. alloc1 ! (λ l₂. alloc1 ! (λ l₃. alloc1 ! (λ l₄. alloc1 ! (λ l₅. alloc1 ! (λ l₆. alloc1 ! (λ l₇. alloc1 ! (λ l₈. alloc1 ! (λ l₉. alloc0 ! $ params1 ! $
+      pass1 ! (init ! 16 refl (tt, (tt, (record { fits = gn.0 }, tt)))) $ pass1 ! (init ! 14 refl ((LL.lawful Q.the_type Q'.the_laws 𝓛).typed d _ dq).0) $ pass0 ! $
+      assigns ! (of_opd ! (load ! (from ! (fld ! refl (stop !))) (look_in ! 16 (sub ! 1 refl (whole !))))) (from ! (stop !)) (init ! 12 refl (tt, record { fits = gn.0 })) $
+      assigns ! (agg ! (and_then ! (load ! (from ! (stop !)) (look ! 12 refl)) (and_then ! (load ! (from ! (stop !)) (look ! 12 refl)) (no_more !)))) (from ! (stop !)) (init ! 10 refl ((LL.lawful F.the_type F'.the_laws 𝓛).typed (nowhere n) _ (start-made n gn.0)).0) $
       assigns ! (of_opd ! (lit ! tt)) (from ! (stop !)) (init ! 8 refl (tt, record { fits = lit< tt })) $
       -- of what the slice reference owns the fractured borrow is kept
-      move ! (23 ∷ []) $ fsplit ! $ fsplit ! $ move ! (1 ∷ []) $ fsplit ! $ move ! (26 ∷ []) $ split ! $
-      keep ! (6 ∷ 7 ∷ 8 ∷ 9 ∷ 10 ∷ 11 ∷ 12 ∷ 13 ∷ 14 ∷ 15 ∷ 16 ∷ 17 ∷ 18 ∷ 19 ∷ 20 ∷ 21 ∷ 22 ∷ 23 ∷ 24 ∷ 25 ∷ 26 ∷ 27 ∷ 3 ∷ 0 ∷ []) $ looped 𝓣 known gn dq is₀ l₀ l₁ l₂ l₃ l₄ l₅ l₆ l₇ l₈ l₉ l₁₀)))))))))))
+      move ! (21 ∷ []) $ fsplit ! $ fsplit ! $ move ! (1 ∷ []) $ fsplit ! $ move ! (24 ∷ []) $ split ! $
+      keep ! (6 ∷ 7 ∷ 8 ∷ 9 ∷ 10 ∷ 11 ∷ 12 ∷ 13 ∷ 14 ∷ 15 ∷ 16 ∷ 17 ∷ 18 ∷ 19 ∷ 20 ∷ 21 ∷ 22 ∷ 23 ∷ 24 ∷ 25 ∷ 3 ∷ 0 ∷ []) $ looped 𝓣 known gn dq l₀ l₁ l₂ l₃ l₄ l₅ l₆ l₇ l₈ l₉))))))))))
 
 module _ {M : Type 1} {𝓤 : Ura M} (𝓛 : Logic 𝓤) (mem' : Memory → SProp 𝓤) (run : Routine → Fun 𝓤) where
   open 𝓛 use {H}
 
   scan-walks : (𝓣 : Tables 𝓤 H) → Triple 𝓤 (𝓣.C #seen) (Seen 𝓛 mem' run) → Walks 𝓛 scan.ended stayed (WpFn 𝓤 H 𝓣.C 𝓣.Λ code.function) (scan.clauses 𝓛 mem' run)
-  scan-walks 𝓣 known = walked 𝓛 scan.ended stayed (scan.clauses 𝓛 mem' run) (WpFn 𝓤 H 𝓣.C 𝓣.Λ code.function)
-      (λ κs. (shr_slice_vals, (LL.vals Q.the_type Q'.the_laws, (LL.vals F.the_type F'.the_laws, tt))))
-      (λ κs. (shr_slice_Tells (named 0) κs.0 T.the_row, (LL.tells Q.the_type Q'.the_laws, (LL.tells F.the_type F'.the_laws, tt))))
+  scan-walks 𝓣 known = walked 𝓛 scan.ended stayed (scan.clauses 𝓛 mem' run) (WpFn 𝓤 H 𝓣.C 𝓣.Λ code.function) (λ κs. (shr_slice_vals, (LL.vals Q.the_type Q'.the_laws, tt))) (λ κs. (shr_slice_Tells (named 0) κs.0 T.the_row, (LL.tells Q.the_type Q'.the_laws, tt)))
       (λ κs qs bounds a g are. via 𝓤 _ (fst∗ 𝓤 _ (emp 𝓤))
-      (walk 𝓛 mem' run κs.0 qs.0 a.0.ref_ptr.0 a.0.ref_ptr.1 0 a.0.now a.1.0 a.1.1.0 𝓣 known are.0.0.1 are.1.0 are.1.1.0))
+      (walk 𝓛 mem' run κs.0 qs.0 a.0.ref_ptr.0 a.0.ref_ptr.1 0 a.0.now a.1.0 𝓣 known are.0.0.1 are.1.0))
 
 scan-meets : {M : Type 1} {𝓤 : Ura M} (𝓛 : Logic 𝓤) (mem' : Memory → SProp 𝓤) (run : Routine → Fun 𝓤) (𝓣 : Tables 𝓤 𝓛.H) → Triple 𝓤 (𝓣.C #seen) (Seen 𝓛 mem' run)
     → Meets 𝓛 scan.signature (WpFn 𝓤 𝓛.H 𝓣.C 𝓣.Λ code.function) (scan.spec 𝓛 mem' run)
-scan-meets {𝓤 = 𝓤} 𝓛 mem' run 𝓣 known = walk_Meets 𝓛 scan.ended stayed
-    (Goes-dropped 𝓛 1 (shr_slice_of (0 ∷ []) tt (plain (λ _. T.the_row))) yes (λ κs x f. refl), (Goes-dropped 𝓛 1 (plain (λ _. Q.the_row)) yes (λ κs x f. refl), (Goes-dropped 𝓛 1 (plain (λ _. F.the_row)) yes (λ κs x f. refl), tt)))
-    (scan.clauses 𝓛 mem' run) (WpFn 𝓤 𝓛.H 𝓣.C 𝓣.Λ code.function) (WpFn-mono 𝓤 𝓛.H 𝓛.laws 𝓣 code.function) (scan-walks 𝓛 mem' run 𝓣 known)
+scan-meets {𝓤 = 𝓤} 𝓛 mem' run 𝓣 known = walk_Meets 𝓛 scan.ended stayed (Goes-dropped 𝓛 1 (shr_slice_of (0 ∷ []) tt (plain (λ _. T.the_row))) yes (λ κs x f. refl), (Goes-dropped 𝓛 1 (plain (λ _. Q.the_row)) yes (λ κs x f. refl), tt)) (scan.clauses 𝓛 mem' run) (WpFn 𝓤 𝓛.H 𝓣.C 𝓣.Λ code.function) (WpFn-mono 𝓤 𝓛.H 𝓛.laws 𝓣 code.function) (scan-walks 𝓛 mem' run 𝓣 known)
 
 pub scan-spec : {M : Type 1} → stated.statement M
 unfolding code.routine tables_of

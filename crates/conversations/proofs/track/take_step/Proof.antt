@@ -8,8 +8,8 @@ use Rattle.conversations.proofs.track.take_step.Tie as tie
 tell-places-requires : tie.Need-tell-places-requires
 tell-places-requires c κs = search rules
 
-find-requires : tie.Need-find-requires
-find-requires c κs = search rules
+find-quad-requires : tie.Need-find-quad-requires
+find-quad-requires c κs = search rules
 
 mul-state : tie.Need-overflow-mul-state
 mul-state c = search rules
@@ -31,7 +31,7 @@ move-place-requires c κs = search rules
 
 returns : tie.Need-returns
 returns c = let a = c.before.before.before.before.before.before.before.before.before.before.before.args in
-    step_held a.m a.q a.k a.ps.now _ c.before.before.before.before.before.before.before.find.ensures c.before.before.before.before.before.before.before.before.before.tell-places.ensures _ _ _ _ c.before.before.before.before.before.before.if1.true
+    step_held a.m a.q a.k a.ps.now _ c.before.before.before.before.before.before.before.find-quad.ensures c.before.before.before.before.before.before.before.before.before.tell-places.ensures _ _ _ _ c.before.before.before.before.before.before.if1.true
     c.before.before.before.before.state.ensures c.before.before.before.phase-of.ensures c.before.before.next_of.ensures c.move-place.ensures
 
 begin-requires : tie.Need-begin-requires
@@ -39,14 +39,14 @@ begin-requires c κs = search rules
 
 returns-2 : tie.Need-returns-2
 returns-2 c = let a = c.before.before.before.before.before.before.before.args in
-    step_none a.m a.q a.k a.ps.now _ c.before.before.before.find.ensures c.before.before.before.before.before.tell-places.ensures _ c.before.before.if1.false c.begin.ensures
+    step_none a.m a.q a.k a.ps.now _ c.before.before.before.find-quad.ensures c.before.before.before.before.before.tell-places.ensures _ c.before.before.if1.false c.begin.ensures
 
 pub take-step-spec : {M : Type 1} → statement M
 take-step-spec =
     tie.close
     (tie.spec
     tell-places-requires
-    find-requires
+    find-quad-requires
     mul-state
     index-1-state
     state-requires
