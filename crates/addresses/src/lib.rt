@@ -1,4 +1,6 @@
 // Addresses: 128 bits as two words, an address and its kind, and prefixes, of which only the leading bits are compared.
+#![tactic(auto)]
+
 ghost use Rattle.std.specs.Prelude.{◌≡◌, ◌+◌, ◌*◌, ◌^◌, ◌≤◌, length};
 ghost use Rattle.addresses.specs.Addresses.{value_of, wide_at, low32, same_address};
 ghost use Rattle.addresses.specs.Prefixes.{prefix_agrees};
@@ -6,14 +8,14 @@ ghost use Rattle.addresses.specs.Prefixes.{prefix_agrees};
 use numbers::{read64, wide64};
 
 // The bits of an address of either kind: an IPv6 address fills both words, an IPv4 address the lower half of the low one.
-#[derive(Drop)]
+#[derive(Clone, Copy)]
 pub struct Wide {
     pub high: u64,
     pub low: u64,
 }
 
 // An address is its bits and its kind.
-#[derive(Drop)]
+#[derive(Clone, Copy)]
 pub struct Address {
     pub ipv6: bool,
     pub bits: Wide,

@@ -8,21 +8,21 @@ pub mod keep;
 pub mod moves;
 
 // Which of the four forms a capture has: its byte order, and whether its times are in nanoseconds.
-#[derive(Drop)]
+#[derive(Clone, Copy)]
 pub struct Form {
     pub big: bool,
     pub nano: bool,
 }
 
 // What the file header says.
-#[derive(Drop)]
+#[derive(Clone, Copy)]
 pub enum Header {
     Bad,
     Good(Form),
 }
 
 // What a record's header says: the time in ms, the bytes that are stored, and those that there were on the wire.
-#[derive(Drop)]
+#[derive(Clone, Copy)]
 pub struct Head {
     pub time: u64,
     pub stored: usize,
@@ -30,7 +30,7 @@ pub struct Head {
 }
 
 // Why a record is refused whatever its bytes: its frame would be longer than any that is judged, or it is stored shorter than it was on the wire.
-#[derive(Drop)]
+#[derive(Clone, Copy)]
 pub enum RecordRefusal {
     TooLong,
     StoredShort,
@@ -52,7 +52,7 @@ impl RecordRefusal {
 }
 
 // What is kept between two calls, beside the bytes that were not used.
-#[derive(Drop)]
+#[derive(Clone, Copy)]
 pub enum State {
     // the file header is to come
     Start,
@@ -70,7 +70,7 @@ pub enum State {
 }
 
 // What a move found; a frame's bytes stand behind the 16 of its record's header.
-#[derive(Drop)]
+#[derive(Clone, Copy)]
 pub enum Found {
     Nothing,
     BadHeader,
@@ -79,7 +79,7 @@ pub enum Found {
 }
 
 // A move: how many of the bytes at hand it used; `more` says that nothing can be done before more bytes come.
-#[derive(Drop)]
+#[derive(Clone, Copy)]
 pub struct Move {
     pub state: State,
     pub used: usize,
@@ -88,7 +88,7 @@ pub struct Move {
 }
 
 // How the capture ends: behind a whole record, or with a file header or a record that is cut short.
-#[derive(Drop)]
+#[derive(Clone, Copy)]
 pub enum End {
     Whole,
     BadHeader,

@@ -9,7 +9,7 @@ use records::{Counts, Head, Places};
 use table::words::TableWords;
 
 // One frame judged so many times on a socket, at readings that rise by a step.
-#[derive(Drop)]
+#[derive(Clone, Copy)]
 struct Many {
     socket: u8,
     times: u32,

@@ -8,7 +8,7 @@ const AT: usize = 0;
 const FILL: usize = 1;
 
 // The next byte, or the end of the input.
-#[derive(Drop)]
+#[derive(Clone, Copy)]
 pub enum Got {
     End,
     Byte(u8),

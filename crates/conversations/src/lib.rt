@@ -6,14 +6,14 @@ use flags::Flags;
 use places::Quad;
 
 // What a rule looks at in a frame: its socket, which the quadruple has, and of a TCP segment the conversation and the flags. A frame without one has no conversation, on its socket.
-#[derive(Drop)]
+#[derive(Clone, Copy)]
 pub struct Turn {
     pub quad: Quad,
     pub flags: Flags,
 }
 
 // What tracking says of a frame: it holds, or why not.
-#[derive(Drop)]
+#[derive(Clone, Copy)]
 pub enum Progress {
     Holds,
     WrongFlags,

@@ -10,14 +10,14 @@ use places::{HELD, KIND_BIT, PLACE_WORDS, PlaceWords, Quad, RulePlaces};
 use table::PLACES;
 
 // What the scan looks at in a place, free or held.
-#[derive(Drop)]
+#[derive(Clone, Copy)]
 pub struct Conversation {
     pub state: u64,
     pub quad: Quad,
 }
 
 // The first place that holds the quadruple and the first free place; the number of places where there is none.
-#[derive(Drop)]
+#[derive(Clone, Copy)]
 pub struct Found {
     pub held: usize,
     pub free: usize,

@@ -15,14 +15,14 @@ use table::settings::*;
 use table::words::*;
 
 // The place of the rule that fits best, 64 for none, and its first layer that does not match: 0 link, 1 IP, 2 transport, 3 SOME/IP.
-#[derive(Drop)]
+#[derive(Clone, Copy)]
 pub struct Best {
     pub place: usize,
     pub layer: usize,
 }
 
 // The place of the rule that decides, 64 for the default, and the best fit.
-#[derive(Drop)]
+#[derive(Clone, Copy)]
 pub struct Decision {
     pub decider: usize,
     pub best: Best,

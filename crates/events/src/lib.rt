@@ -30,7 +30,7 @@ use table::words::RuleWords;
 pub const ROOM: usize = 256;
 
 // The events of 001 that a verdict can give.
-#[derive(Drop)]
+#[derive(Clone, Copy)]
 pub enum Event {
     Ratelimit,
     StateTransition,
@@ -97,7 +97,7 @@ impl Event {
 }
 
 // Where a header lies in the frame.
-#[derive(Drop)]
+#[derive(Clone, Copy)]
 pub struct Span {
     pub at: usize,
     pub len: usize,

@@ -12,13 +12,13 @@ use table::words::*;
 use table::*;
 
 // Where the first fault stands: a rule's place and its setting, or RULES and no setting for the states or the rule count.
-#[derive(Drop)]
+#[derive(Clone, Copy)]
 pub struct AtFault {
     pub place: usize,
     pub setting: SettingNumber,
 }
 
-#[derive(Drop)]
+#[derive(Clone, Copy)]
 pub enum Fault {
     Good,
     At(AtFault),

@@ -34,25 +34,25 @@ use steps::{Answer, step};
 use table::Table;
 use table::words::{ROW_WORDS, ROWS, TableWords, statecount};
 
-#[derive(Drop)]
+#[derive(Clone, Copy)]
 pub enum Checked {
     Refused(Refusal),
     Good,
 }
 
-#[derive(Drop)]
+#[derive(Clone, Copy)]
 pub enum Started {
     Refused(Refusal),
     Fresh,
 }
 
-#[derive(Drop)]
+#[derive(Clone, Copy)]
 pub enum Switched {
     Refused(Refusal),
     Done,
 }
 
-#[derive(Drop)]
+#[derive(Clone, Copy)]
 pub enum Judged {
     Refused(Refusal),
     Answered(Answer),

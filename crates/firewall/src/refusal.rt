@@ -8,7 +8,7 @@ use layers::FrameRefusal;
 
 // A refusal's number; and for a bad table the place of the first rule at fault and the number of its first setting at fault,
 // 64 and 255 for the states or the rule count. Both are 0 for the other refusals.
-#[derive(Drop)]
+#[derive(Clone, Copy)]
 pub struct Refusal {
     pub number: u8,
     pub place: usize,

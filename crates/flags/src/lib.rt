@@ -1,10 +1,12 @@
 // The flags of a segment: what they count as, and which step that is for a conversation.
+#![tactic(auto)]
+
 ghost use Rattle.std.specs.Prelude.{◌≡◌, cond, ◌<◌, ◌≤◌};
 ghost use Rattle.flags.specs.Flags.{kind_of, next_of};
 ghost use Rattle.flags.specs.Kinds.{entry_of};
 
 // The kinds that the four flags can count as.
-#[derive(Drop)]
+#[derive(Clone, Copy)]
 pub enum FlagKind {
     Open,
     Carry,
@@ -13,14 +15,14 @@ pub enum FlagKind {
 }
 
 // What they do count as: no kind, which is wrong, or one of the kinds.
-#[derive(Drop)]
+#[derive(Clone, Copy)]
 pub enum Flags {
     Wrong,
     Kind(FlagKind),
 }
 
 // The state of a conversation that is held.
-#[derive(Drop)]
+#[derive(Clone, Copy)]
 pub enum Phase {
     Opening,
     Running,
@@ -28,7 +30,7 @@ pub enum Phase {
 }
 
 // A step of the table: not allowed in this state, the conversation removed, or its next state.
-#[derive(Drop)]
+#[derive(Clone, Copy)]
 pub enum Next {
     No,
     Removed,

@@ -16,20 +16,20 @@ use verdicts::verdict::Verdict;
 const MOST_PLACES: u8 = PLACES as u8;
 
 // How the frame's conversation is held before it.
-#[derive(Drop)]
+#[derive(Clone, Copy)]
 pub enum Held {
     Nothing,
     As(Phase),
 }
 
 // What tracking does with the frame: its verdict, and the number of the state in which its conversation is held after it, 0 for none.
-#[derive(Drop)]
+#[derive(Clone, Copy)]
 pub struct Done {
     pub verdict: u8,
     pub state: u64,
 }
 
-#[derive(Drop)]
+#[derive(Clone, Copy)]
 pub struct Row {
     pub fin: bool,
     pub syn: bool,

@@ -1,4 +1,6 @@
 // Reads the layers of an Ethernet frame: link, IP, transport, SOME/IP. No rules, no records.
+#![tactic(auto)]
+
 ghost use Rattle.std.specs.Prelude.{◌≡◌, false};
 ghost use Rattle.layers.specs.Layers.{layers_of, too_short, refusal_number, shown_of};
 
@@ -14,7 +16,7 @@ const LEAST: usize = 14;
 
 const MOST: usize = 1518;
 
-#[derive(Drop)]
+#[derive(Clone, Copy)]
 pub struct Layers {
     pub link: Link,
     pub ip: Ip,
@@ -23,7 +25,7 @@ pub struct Layers {
 }
 
 // Why a frame is not read.
-#[derive(Drop)]
+#[derive(Clone, Copy)]
 pub enum FrameRefusal {
     TooShort,
     TooLong,
@@ -44,7 +46,7 @@ impl FrameRefusal {
     }
 }
 
-#[derive(Drop)]
+#[derive(Clone, Copy)]
 pub enum Shown {
     Refused(FrameRefusal),
     Shows(Layers),

@@ -9,7 +9,7 @@ ghost use Rattle.lines.specs.Lines.{row, letter_r, two_words, text_of, line_room
 use digits::{pair, word};
 
 // What a line tells: the file cut short, a bad file header, a record refused or judged. A time is in milliseconds, an event 0 where there is none.
-#[derive(Drop)]
+#[derive(Clone, Copy)]
 pub enum Line {
     Cut,
     BadHeader,

@@ -1,18 +1,20 @@
 // The two lower layers of an Ethernet frame, link and IP. `layers` reads a whole frame by them.
+#![tactic(auto)]
+
 pub mod ip_layer;
 mod ipv6_layer;
 pub mod link_layer;
 
 use addresses::Wide;
 
-#[derive(Drop)]
+#[derive(Clone, Copy)]
 pub enum Tag {
     Untagged,
     Tagged { priority: u8, vlan: u16 },
 }
 
 // The header lies at 0, the rest starts at hlen.
-#[derive(Drop)]
+#[derive(Clone, Copy)]
 pub struct Link {
     pub destination: u64,
     pub source: u64,
@@ -22,7 +24,7 @@ pub struct Link {
 }
 
 // Header and payload count from the frame's start; hlen and plen are their lengths.
-#[derive(Drop)]
+#[derive(Clone, Copy)]
 pub struct Packet {
     pub source: u32,
     pub destination: u32,
@@ -34,7 +36,7 @@ pub struct Packet {
 }
 
 // The extension headers of an IPv6 packet: the number after them, and where what follows them lies; or that following them fails.
-#[derive(Drop)]
+#[derive(Clone, Copy)]
 pub enum Chain {
     Fails,
     Ends {
@@ -45,7 +47,7 @@ pub enum Chain {
 }
 
 // Its header has 40 bytes.
-#[derive(Drop)]
+#[derive(Clone, Copy)]
 pub struct Packet6 {
     pub source: Wide,
     pub destination: Wide,
@@ -53,7 +55,7 @@ pub struct Packet6 {
     pub chain: Chain,
 }
 
-#[derive(Drop)]
+#[derive(Clone, Copy)]
 pub enum Ip {
     Absent,
     V4(Packet),

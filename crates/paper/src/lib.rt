@@ -4,7 +4,7 @@ pub mod lines;
 pub mod rules;
 
 // The frames, by name.
-#[derive(Drop)]
+#[derive(Clone, Copy)]
 pub enum Frame {
     A,
     Padded,
@@ -26,7 +26,7 @@ pub enum Frame {
 
 // What the paper says of a frame: a refusal by its number; or verdict and rule id, 65,535 for the default, without an event or with one:
 // its number, the rule that it names, and its length.
-#[derive(Drop)]
+#[derive(Clone, Copy)]
 pub enum Expected {
     Refused(u8),
     Quiet {
@@ -43,7 +43,7 @@ pub enum Expected {
 }
 
 // A line of the page: the number of the example, whether a fresh record comes first, the reading, the frame, and what is expected.
-#[derive(Drop)]
+#[derive(Clone, Copy)]
 pub struct Line {
     pub example: u8,
     pub fresh: bool,

@@ -1,9 +1,11 @@
 // The two upper layers of a frame, transport and SOME/IP. `layers` reads a whole frame by them.
+#![tactic(auto)]
+
 pub mod someip_layer;
 pub mod transport_layer;
 
 // Header and payload count from the frame's start; hlen and plen are their lengths.
-#[derive(Drop)]
+#[derive(Clone, Copy)]
 pub struct Segment {
     pub source: u16,
     pub destination: u16,
@@ -15,7 +17,7 @@ pub struct Segment {
     pub hlen: usize,
 }
 
-#[derive(Drop)]
+#[derive(Clone, Copy)]
 pub struct Datagram {
     pub source: u16,
     pub destination: u16,
@@ -24,7 +26,7 @@ pub struct Datagram {
     pub plen: usize,
 }
 
-#[derive(Drop)]
+#[derive(Clone, Copy)]
 pub enum Transport {
     Absent,
     Tcp(Segment),
@@ -32,7 +34,7 @@ pub enum Transport {
 }
 
 // One SOME/IP message: its header counts from the frame's start, size are all its bytes.
-#[derive(Drop)]
+#[derive(Clone, Copy)]
 pub struct Message {
     pub service: u16,
     pub method: u16,
@@ -44,13 +46,13 @@ pub struct Message {
 }
 
 // One or more whole messages, one behind the other: the payload of a datagram that cuts into them.
-#[derive(Drop)]
+#[derive(Clone, Copy)]
 pub struct Bundle {
     pub payload: usize,
     pub plen: usize,
 }
 
-#[derive(Drop)]
+#[derive(Clone, Copy)]
 pub enum Someip {
     Absent,
     Present(Bundle),

@@ -45,7 +45,7 @@ pub const AGE_BIT: u64 = 16;
 pub const HALF: u64 = 4294967296;
 
 // A conversation: its socket, the addresses, of one kind, and both ports, source x 65,536 + destination, as this direction shows them.
-#[derive(Drop)]
+#[derive(Clone, Copy)]
 pub struct Quad {
     pub second: bool,
     pub ipv6: bool,

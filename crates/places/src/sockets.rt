@@ -14,7 +14,7 @@ fn one(b: bool) -> u8
 }
 
 // How many places each socket holds.
-#[derive(Drop)]
+#[derive(Clone, Copy)]
 pub struct PerSocket {
     pub first: u8,
     pub second: u8,

@@ -9,7 +9,7 @@ pub const SETTINGS: usize = 28;
 // The number that stands for none of them.
 pub const NO_SETTING: u8 = SettingNumber::NONE.number;
 
-#[derive(Drop)]
+#[derive(Clone, Copy)]
 pub struct SettingNumber {
     pub number: u8,
 }

@@ -6,7 +6,7 @@ use capture::State;
 
 // What a call leaves: the reader's state, the place of the next record, how many bytes it used, how many it wrote;
 // `more` says that nothing can be done before more bytes come.
-#[derive(Drop)]
+#[derive(Clone, Copy)]
 pub struct Fed {
     pub state: State,
     pub place: u64,

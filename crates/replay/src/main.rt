@@ -38,7 +38,7 @@ const TURNS: u64 = 18014398509481984;
 
 // Between two turns: the bytes at hand are those of the buffer from `at` to `end`; `more` asks for others. What is to be printed are the first
 // `count` bytes of the output. `ended` says that nothing more is to be found, `failed` that a read failed; each ends the run.
-#[derive(Drop)]
+#[derive(Clone, Copy)]
 pub struct Position {
     pub state: State,
     pub place: u64,
@@ -51,7 +51,7 @@ pub struct Position {
 }
 
 // Where a run stopped, and whether it was because the output is closed.
-#[derive(Drop)]
+#[derive(Clone, Copy)]
 pub struct Ran {
     pub position: Position,
     pub closed: bool,

@@ -29,7 +29,7 @@ use table::words::{TableWords, id, tell_table};
 use verdicts::verdict::Verdict;
 
 // "The answer is verdict, the deciding rule's id (65,535 for the default) and event length".
-#[derive(Drop)]
+#[derive(Clone, Copy)]
 pub struct Answer {
     pub verdict: Verdict,
     pub rule: u16,
@@ -42,7 +42,7 @@ impl Answer {
 }
 
 // What a verdict reports: nothing, an event of the decider, or the mismatch of the best fit.
-#[derive(Drop)]
+#[derive(Clone, Copy)]
 pub enum Report {
     Nothing,
     Own(Event),

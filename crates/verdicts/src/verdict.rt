@@ -16,7 +16,7 @@ ghost use Rattle.verdicts.specs.Rule.{
 
 use conversations::Progress;
 
-#[derive(Drop)]
+#[derive(Clone, Copy)]
 pub struct Verdict {
     pub number: u8,
 }
