@@ -1,4 +1,6 @@
 // Reads a classic pcap capture by parts. It does no input and no output: the caller lends the bytes at hand.
+#![tactic(auto)]
+
 ghost use Rattle.std.specs.Prelude.{◌≡◌};
 ghost use Rattle.capture.specs.Capture.{refusal_number};
 

@@ -1,4 +1,6 @@
 // The line that the program `replay` prints for a record: change request 4/12.
+#![tactic(auto)]
+
 mod digits;
 
 ghost use Rattle.std.specs.Prelude.{[], ◌∷◌, ◌++◌, ◌≤◌, length};
