@@ -1,4 +1,6 @@
 // The places of one rule for its conversations: their words, read and made, aged, tested. They are lent and changed in place.
+#![tactic(auto)]
+
 pub mod ageing;
 pub mod place;
 pub mod shape;
