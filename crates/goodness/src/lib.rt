@@ -1,4 +1,6 @@
 // Are the places of one rule good?
+#![tactic(auto)]
+
 ghost use Rattle.std.specs.Prelude.{◌≡◌, Bool, ◌<◌, ◌≤◌, eqb};
 ghost use Rattle.numbers.specs.Lists.{every, all_below};
 ghost use Rattle.table.specs.Table.{most_rules, most_places};
