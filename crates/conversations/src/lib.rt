@@ -1,4 +1,6 @@
 // One rule's conversations, each in a place: found, moved on, begun. Places are lent as words and changed in place.
+#![tactic(auto)]
+
 mod scan;
 pub mod track;
 
