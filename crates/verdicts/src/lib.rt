@@ -1,4 +1,6 @@
 // One decider, a rule or the default: its verdict on a frame, and its record: levels, counts, conversations. The record is lent and changed in place.
+#![tactic(auto)]
+
 pub mod ageing;
 pub mod good;
 mod rate;
