@@ -1,4 +1,6 @@
 // Is the table good, and if not, where is its first fault?
+#![tactic(auto)]
+
 ghost use Rattle.std.specs.Prelude.{◌≡◌, cond, not, ◌<◌, ◌≤◌, get_or, eqb};
 ghost use Rattle.numbers.specs.Lists.{all_below, count_below};
 ghost use Rattle.table.specs.Table.{most_rules, most_states};

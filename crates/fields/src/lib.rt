@@ -1,4 +1,6 @@
 // The words of one rule, a field above the other: each layer has a word with its marks and its values.
+#![tactic(auto)]
+
 ghost use Rattle.std.specs.Prelude.{◌≡◌, ◌+◌, ◌*◌, ◌^◌, ◌<◌};
 ghost use Rattle.table.specs.Settings.{of8, of16, of32, of64};
 ghost use Rattle.table.specs.Words.{action_code, kind_code};

@@ -1,4 +1,6 @@
 // A rule, a state, a table laid into the words that are lent: into the very words of Layout, which read back as what was laid.
+#![tactic(auto)]
+
 ghost use Rattle.std.specs.Prelude.{◌≡◌, map, length, drop};
 ghost use Rattle.table.specs.Table.{most_rules, most_states};
 ghost use Rattle.table.specs.Words.{state_row, table_rows, rule_in, state_in, table_in};

@@ -1,4 +1,6 @@
 // The paper's worked set: its table T, its frames, and the lines of the page that shows them.
+#![tactic(auto)]
+
 pub mod frames;
 pub mod lines;
 pub mod rules;

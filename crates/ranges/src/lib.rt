@@ -1,4 +1,6 @@
 // The settings of one rule: the first that is at fault.
+#![tactic(auto)]
+
 ghost use Rattle.std.specs.Prelude.{◌≡◌};
 ghost use Rattle.table.specs.Words.{link_in, ipv4_in, ipv6_in, transport_in, rate_in, tracking_in, rule_in};
 ghost use Rattle.ranges.specs.Ranges.{

@@ -1,0 +1,10 @@
+-- `paper::lines::m5` is the lines of M5: antt computes its rows and the page.
+use mathlib.Core.Path.{◌∙◌}
+use native.Mathlib.Omega.{arith}
+use Rattle.paper.proofs.Page.{in_page}
+use Rattle.paper.specs.Worked.{lines}
+use Rattle.paper.proofs.lines.m5.Goals as goal
+
+pub returns : goal.returns
+unfolding lines
+returns c = c.line_of.ensures ∙ in_page 4 6 c.args.k (omega arith) (omega arith)
