@@ -1,4 +1,6 @@
 // Who decides, and who fits best.
+#![tactic(auto)]
+
 ghost use Rattle.std.specs.Prelude.{◌≡◌, cond, suc, ◌<◌, ◌≤◌};
 ghost use Rattle.numbers.specs.Lists.{leading};
 ghost use Rattle.table.specs.Table.{most_rules, most_states, marked as marked_at};

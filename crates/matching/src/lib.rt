@@ -1,3 +1,5 @@
 // Does a layer match, and does a rule.
+#![tactic(auto)]
+
 mod agrees;
 pub mod rules;

@@ -1,0 +1,16 @@
+use Prim.Native.Nat.{◌≤◌, ◌-◌}
+use mathlib.Core.Path.{◌≡◌}
+use Rattle.layers.specs.Seen.{seen}
+use Rattle.table.specs.Words.{table_in}
+use Rattle.deciding.specs.Best.{score_of}
+use Rattle.deciding.proofs.Fitting.{Fits}
+use Rattle.deciding.proofs.best_fit.Given as goal
+
+abbrev pub invariant-loop-i : goal.invariant-loop-i
+invariant-loop-i l =
+    (l.i ≤ l.count)
+    × (l.count ≡ (table_in l.t).rulecount)
+    × Fits (score_of (table_in l.t) l.state (seen l.second l.s l.l)) l.i l.place l.most
+
+abbrev pub decreases-loop-i : goal.decreases-loop-i
+decreases-loop-i l = l.count - l.i
