@@ -1,7 +1,7 @@
 -- The records, and the words that hold them. Document 01, 'The records'.
 -- Assumes nothing.
 use Rattle.std.specs.Prelude.{ℕ, ◌<◌, ◌+◌, ◌≡◌, List, [], ◌∷◌, map, length, get_or, take}
-use Rattle.std.specs.Borrow.{Bor}
+use Rattle.std.specs.Borrow.{MutBor}
 use denote.Triple.Both.{Both}
 use Rattle.table.specs.Table.{most_rules, most_places}
 use Rattle.places.specs.Places.{Fits, ShapedPlaces}
@@ -50,9 +50,9 @@ pub record Lent : Type 0 where
 abbrev pub lent : List ℕ → List (List ℕ) → List (List (List ℕ)) → Lent
 lent head counts places = record { head = head; counts = counts; places = places }
 
--- words behind a reference, at a call's entry and at its exit
+-- words behind a reference that may be written, at a call's entry and at its exit
 abbrev pub AtCall : Type 0 → Type 0
-AtCall X = Both (Bor X) (Bor X)
+AtCall X = Both (MutBor X) (MutBor X)
 
 -- the words that are lent to a call, as it finds them and as it leaves them
 abbrev pub before : AtCall (List ℕ) → AtCall (List (List ℕ)) → AtCall (List (List (List ℕ))) → Lent

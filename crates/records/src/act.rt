@@ -1,7 +1,7 @@
 // Steps 3 to 5 of the decider, a rule or the default.
 ghost use Rattle.std.specs.Prelude.{◌≡◌, get_or};
 ghost use Rattle.table.specs.Words.{table_in};
-ghost use Rattle.records.specs.Records.{active_word, records_of, before, after};
+ghost use Rattle.records.specs.Records.{active_word, records_of, lent};
 ghost use Rattle.records.specs.Step.{reaction, acted, MayAct};
 
 use crate::shape::*;
@@ -22,9 +22,9 @@ pub fn act(
     places: &mut Places,
 ) -> Verdict
     requires { MayAct (table_in t.now) (get_or head.now active_word 0) d }
-    ensures verdict { result.number ≡ (reaction (table_in t.now) g d (records_of (before head counts places))).verdict }
-    ensures records { records_of (after head counts places)
-        ≡ acted (table_in t.now) g d (records_of (before head counts places)) }
+    ensures verdict { result.number ≡ (reaction (table_in t.now) g d (records_of (lent head.now counts.old places.old))).verdict }
+    ensures records { records_of (lent head.now counts.new places.new)
+        ≡ acted (table_in t.now) g d (records_of (lent head.now counts.old places.old)) }
 {
     tell_rows(*counts, *places);
     words::tell_table(*t);

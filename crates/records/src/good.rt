@@ -3,7 +3,7 @@ ghost use Rattle.std.specs.Prelude.{◌≡◌, ◌≤◌, min};
 ghost use Rattle.numbers.specs.Lists.{all_below};
 ghost use Rattle.table.specs.Table.{most_rules};
 ghost use Rattle.table.specs.Words.{table_in};
-ghost use Rattle.records.specs.Records.{rule_records, records_of, before};
+ghost use Rattle.records.specs.Records.{rule_records, records_of, lent};
 ghost use Rattle.records.specs.Good.{level_from, slots_good, rules_good, records_good};
 
 use crate::shape::*;
@@ -64,7 +64,7 @@ fn good_rules(t: &TableWords, counts: &Counts, places: &Places) -> bool
 }
 
 pub fn good(t: &TableWords, head: &Head, counts: &Counts, places: &Places) -> bool
-    ensures { result ≡ records_good (table_in t.now) (records_of (before head counts places)) }
+    ensures { result ≡ records_good (table_in t.now) (records_of (lent head.now counts.now places.now)) }
 {
     tell_rows(*counts, *places);
     words::tell_table(*t);

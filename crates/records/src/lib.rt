@@ -1,4 +1,6 @@
 // The records: good, fresh, and what one frame does to them. They are lent and changed in place.
+#![tactic(auto)]
+
 pub mod act;
 pub mod fresh;
 pub mod good;
