@@ -60,7 +60,7 @@ pub enum Judged {
 
 // Is the table good, and then the record?
 pub fn check(t: &TableWords, head: &Head, counts: &Counts, places: &Places) -> Checked
-    ensures { said_checked result ≡ check_of (table_in t.now) (before head counts places) }
+    ensures { said_checked result ≡ check_of (table_in t.now) (lent head.now counts.now places.now) }
 {
     let f = first_fault(t);
     let Fault::At(at) = f else {

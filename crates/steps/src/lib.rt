@@ -1,4 +1,6 @@
 // One frame judged for a good table and a good record, with nothing checked again.
+#![tactic(auto)]
+
 ghost use Rattle.std.specs.Prelude.{◌≡◌, ◌≤◌, length};
 ghost use Rattle.numbers.specs.Lists.{Wrote};
 ghost use Rattle.layers.specs.Inside.{Inside};
