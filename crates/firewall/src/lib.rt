@@ -1,4 +1,6 @@
 // The entry points: check, fresh, switch, judge. They ask nothing, and refuse bad input in the paper's order.
+#![tactic(auto)]
+
 ghost use Rattle.std.specs.Prelude.{◌≡◌, true};
 ghost use Rattle.layers.specs.Layers.{shown_of};
 ghost use Rattle.faults.specs.declared.Fault.TheVariants as fault;
@@ -99,8 +101,8 @@ pub fn switch(
     counts: &Counts,
     places: &Places,
 ) -> Switched
-    ensures { leaves (said_switched result) (after head counts places)
-        ≡ switch_of (table_in t.now) state (before head counts places) }
+    ensures { leaves (said_switched result) (lent head.new counts.now places.now)
+        ≡ switch_of (table_in t.now) state (lent head.old counts.now places.now) }
 {
     let checked = check(t, head, counts, places);
     let Checked::Refused(refusal) = checked else {
