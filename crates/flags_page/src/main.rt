@@ -1,4 +1,6 @@
 // Prints one page: what each setting of FIN, SYN, RST and ACK counts as, and what a rule that tracks does with such a frame.
+#![tactic(auto)]
+
 mod print;
 mod row;
 
