@@ -6,6 +6,8 @@ use crate::input::take;
 use crate::print;
 use numbers::{count8, count16, read16, read32, read64, wide64};
 use records::{Counts, Head, Places};
+use std::io;
+use std::io::{Read, Write};
 use table::words::TableWords;
 
 // One frame judged so many times on a socket, at readings that rise by a step.
@@ -20,44 +22,41 @@ pub(crate) fn call(
     letter: u8,
     socket: u8,
     t: &TableWords,
-    buf: &mut [u8; 65536],
-    span: &mut [usize; 2],
+    input: &mut impl Read,
     image: &mut Image,
     head: &mut Head,
     counts: &mut Counts,
     places: &mut Places,
-    out: &mut [u8; 65536],
-    used: &mut usize,
-) -> bool {
+    out: &mut impl Write,
+) -> io::Result<bool> {
     let once = Many {
         socket,
         times: 1,
         step: 0,
     };
     match letter {
-        b'T' => take(buf, span, image, 0, TABLE),
-        b'R' => load(buf, span, image, head, counts, places),
-        b'C' => check(t, head, counts, places, out, used),
-        b'F' => fresh(t, buf, span, image, head, counts, places, out, used),
-        b'V' => switch(t, buf, span, image, head, counts, places, out, used),
-        b'S' => take(buf, span, image, 0, 1),
-        b'J' => judge(t, once, buf, span, image, head, counts, places, out, used),
-        b'B' => pace(t, socket, buf, span, image, head, counts, places, out, used),
-        b'L' => layers_of(buf, span, image, out, used),
-        b'P' => print::all_records(head, counts, places, out, used),
-        _ => false,
+        b'T' => Ok(take(input, image, 0, TABLE)),
+        b'R' => Ok(load(input, image, head, counts, places)),
+        b'C' => check(t, head, counts, places, out),
+        b'F' => fresh(t, input, image, head, counts, places, out),
+        b'V' => switch(t, input, image, head, counts, places, out),
+        b'S' => Ok(take(input, image, 0, 1)),
+        b'J' => judge(t, once, input, image, head, counts, places, out),
+        b'B' => pace(t, socket, input, image, head, counts, places, out),
+        b'L' => layers_of(input, image, out),
+        b'P' => print::all_records(head, counts, places, out),
+        _ => Ok(false),
     }
 }
 
 fn load(
-    buf: &mut [u8; 65536],
-    span: &mut [usize; 2],
+    input: &mut impl Read,
     image: &mut Image,
     head: &mut Head,
     counts: &mut Counts,
     places: &mut Places,
 ) -> bool {
-    if !take(buf, span, image, 0, RECORDS) {
+    if !take(input, image, 0, RECORDS) {
         return false;
     }
     records_of(image, head, counts, places);
@@ -69,107 +68,98 @@ fn check(
     head: &Head,
     counts: &Counts,
     places: &Places,
-    out: &mut [u8; 65536],
-    used: &mut usize,
-) -> bool {
+    out: &mut impl Write,
+) -> io::Result<bool> {
     let answer = firewall::check(t, head, counts, places);
-    print::checked(answer, out, used);
-    true
+    print::checked(answer, out)?;
+    Ok(true)
 }
 
 fn fresh(
     t: &TableWords,
-    buf: &mut [u8; 65536],
-    span: &mut [usize; 2],
+    input: &mut impl Read,
     image: &mut Image,
     head: &mut Head,
     counts: &mut Counts,
     places: &mut Places,
-    out: &mut [u8; 65536],
-    used: &mut usize,
-) -> bool {
-    if !take(buf, span, image, 0, 8) {
-        return false;
+    out: &mut impl Write,
+) -> io::Result<bool> {
+    if !take(input, image, 0, 8) {
+        return Ok(false);
     }
     let answer = firewall::fresh(t, read64(image, 0), head, counts, places);
-    print::started(answer, out, used);
-    true
+    print::started(answer, out)?;
+    Ok(true)
 }
 
 fn switch(
     t: &TableWords,
-    buf: &mut [u8; 65536],
-    span: &mut [usize; 2],
+    input: &mut impl Read,
     image: &mut Image,
     head: &mut Head,
     counts: &mut Counts,
     places: &mut Places,
-    out: &mut [u8; 65536],
-    used: &mut usize,
-) -> bool {
-    if !take(buf, span, image, 0, 1) {
-        return false;
+    out: &mut impl Write,
+) -> io::Result<bool> {
+    if !take(input, image, 0, 1) {
+        return Ok(false);
     }
     let answer = firewall::switch(t, count8(image[0]), head, counts, places);
-    print::switched(answer, out, used);
-    true
+    print::switched(answer, out)?;
+    Ok(true)
 }
 
 fn pace(
     t: &TableWords,
     socket: u8,
-    buf: &mut [u8; 65536],
-    span: &mut [usize; 2],
+    input: &mut impl Read,
     image: &mut Image,
     head: &mut Head,
     counts: &mut Counts,
     places: &mut Places,
-    out: &mut [u8; 65536],
-    used: &mut usize,
-) -> bool {
-    if !take(buf, span, image, 0, 8) {
-        return false;
+    out: &mut impl Write,
+) -> io::Result<bool> {
+    if !take(input, image, 0, 8) {
+        return Ok(false);
     }
     let times = read32(image, 0);
     if times == 0 {
-        return false;
+        return Ok(false);
     }
     let many = Many {
         socket,
         times,
         step: wide64(read32(image, 4)),
     };
-    judge(t, many, buf, span, image, head, counts, places, out, used)
+    judge(t, many, input, image, head, counts, places, out)
 }
 
 fn judge(
     t: &TableWords,
     m: Many,
-    buf: &mut [u8; 65536],
-    span: &mut [usize; 2],
+    input: &mut impl Read,
     image: &mut Image,
     head: &mut Head,
     counts: &mut Counts,
     places: &mut Places,
-    out: &mut [u8; 65536],
-    used: &mut usize,
-) -> bool {
-    if !take(buf, span, image, 0, 12) {
-        return false;
+    out: &mut impl Write,
+) -> io::Result<bool> {
+    if !take(input, image, 0, 12) {
+        return Ok(false);
     }
     let room = count16(read16(image, 8));
     let length = count16(read16(image, 10));
     if 512 < room {
-        return false;
+        return Ok(false);
     }
     if 2048 < length {
-        return false;
+        return Ok(false);
     }
-    if !take(buf, span, image, 12, length) {
-        return false;
+    if !take(input, image, 12, length) {
+        return Ok(false);
     }
-    judged(t, m, image, room, length, head, counts, places, out, used);
-    true
+    judged(t, m, image, room, length, head, counts, places, out)?;
+    Ok(true)
 }
 
 // A reading that would pass the highest stays.
@@ -226,9 +216,8 @@ fn judged(
     head: &mut Head,
     counts: &mut Counts,
     places: &mut Places,
-    out: &mut [u8; 65536],
-    used: &mut usize,
-)
+    out: &mut impl Write,
+) -> io::Result<()>
     requires room { room ≤ 512 }
     requires length { length ≤ 2048 }
 {
@@ -246,36 +235,30 @@ fn judged(
         reading,
         &mut space[0..room],
     );
-    print::judged(answer, space, out, used);
+    print::judged(answer, space, out)
 }
 
-fn layers_of(
-    buf: &mut [u8; 65536],
-    span: &mut [usize; 2],
-    image: &mut Image,
-    out: &mut [u8; 65536],
-    used: &mut usize,
-) -> bool {
-    if !take(buf, span, image, 0, 2) {
-        return false;
+fn layers_of(input: &mut impl Read, image: &mut Image, out: &mut impl Write) -> io::Result<bool> {
+    if !take(input, image, 0, 2) {
+        return Ok(false);
     }
     let length = count16(read16(image, 0));
     if 2048 < length {
-        return false;
+        return Ok(false);
     }
-    if !take(buf, span, image, 2, length) {
-        return false;
+    if !take(input, image, 2, length) {
+        return Ok(false);
     }
-    shown(image, length, out, used);
-    true
+    shown(image, length, out)?;
+    Ok(true)
 }
 
-fn shown(image: &Image, length: usize, out: &mut [u8; 65536], used: &mut usize)
+fn shown(image: &Image, length: usize, out: &mut impl Write) -> io::Result<()>
     requires { length ≤ 2048 }
 {
     let bytes = &image[..];
     let end = 2 + length;
     let frame = &bytes[2..end];
     let answer = layers::read(frame);
-    print::shown(frame, answer, out, used);
+    print::shown(frame, answer, out)
 }

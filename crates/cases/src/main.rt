@@ -6,17 +6,20 @@ mod output;
 mod print;
 
 use image::Image;
-use input::Got;
 use places::PLACE_WORDS;
 use records::{COUNT_ROWS, Counts, HEAD_WORDS, Head, Places};
+use std::io;
+use std::io::{BufReader, BufWriter, Read, Write};
 use table::words::{ROW_WORDS, ROWS, TableWords};
 use table::{PLACES, RULES};
 use verdicts::COUNT_WORDS;
 
+// How many bytes of the input and of the output are held at a time.
+const BUFFER: usize = 65536;
+
 // The calls one after the other, with the table, the records and the socket held from one to the next. Nothing says that an input
 // ends, so the turns are counted down from a number that no run uses up.
-fn run(buf: &mut [u8; 65536], image: &mut Image, out: &mut [u8; 65536], used: &mut usize) {
-    let mut span = [0usize; 2];
+fn run(input: &mut impl Read, image: &mut Image, out: &mut impl Write) -> io::Result<()> {
     let mut head: Head = [0; HEAD_WORDS];
     let mut counts: Counts = [[0; COUNT_WORDS]; COUNT_ROWS];
     let mut places: Places = [[[0; PLACE_WORDS]; PLACES]; RULES];
@@ -24,24 +27,21 @@ fn run(buf: &mut [u8; 65536], image: &mut Image, out: &mut [u8; 65536], used: &m
     let mut socket = 0u8;
     let mut turns = u64::MAX;
     while turns > 0 {
-        let Got::Byte(letter) = input::next(buf, &mut span) else {
-            return;
+        let Some(letter) = input::next(input) else {
+            return Ok(());
         };
         if !calls::call(
             letter,
             socket,
             &t,
-            buf,
-            &mut span,
+            input,
             image,
             &mut head,
             &mut counts,
             &mut places,
             out,
-            used,
-        ) {
-            print::alone(b'?', out, used);
-            return;
+        )? {
+            return print::alone('?', out);
         }
         if letter == b'T' {
             lay::table(image::table_of(image), &mut t);
@@ -51,13 +51,13 @@ fn run(buf: &mut [u8; 65536], image: &mut Image, out: &mut [u8; 65536], used: &m
         }
         turns -= 1;
     }
+    Ok(())
 }
 
-fn main() {
-    let mut buf = io::large_buffer();
-    let mut out = io::large_buffer();
+fn main(rt: HostRuntime) -> io::Result<()> {
+    let mut input = BufReader::with_capacity(rt.alloc(), BUFFER, rt.stdin())?;
+    let mut out = BufWriter::with_capacity(rt.alloc(), BUFFER, rt.stdout())?;
     let mut image = [0u8; 33812];
-    let mut used = 0;
-    run(&mut buf, &mut image, &mut out, &mut used);
-    output::flush(out, used);
+    run(&mut input, &mut image, &mut out)?;
+    out.flush()
 }

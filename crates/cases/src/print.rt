@@ -4,7 +4,7 @@ ghost use Rattle.payloads.specs.Inside.{BundleInside, SomeipInside};
 ghost use Rattle.layers.specs.Inside.{Inside};
 ghost use Rattle.layers.specs.Layers.{shown_of};
 
-use crate::output::{hex, put, row, text};
+use crate::output::{hex, row};
 use addresses::{Address, Wide};
 use firewall::refusal::Refusal;
 use firewall::{Checked, Judged, Started, Switched};
@@ -16,6 +16,8 @@ use payloads::{Bundle, Message, Segment, Someip, Transport};
 use places::place::{age, destination, quad, source, state};
 use places::{PlaceWords, Quad, RulePlaces};
 use records::{ACTIVE, Counts, DEFAULT, Head, LAST, Places};
+use std::io;
+use std::io::Write;
 use steps::Answer;
 use table::{PLACES, RULES};
 use verdicts::{BLOCKED, CountWords, LEVEL0, LEVEL1, PASSED};
@@ -37,93 +39,85 @@ fn flag(x: bool) -> u64 {
 }
 
 // A line of a letter alone.
-pub(crate) fn alone(letter: u8, out: &mut [u8; 65536], used: &mut usize) {
-    put(out, used, letter);
-    put(out, used, b'\n');
+pub(crate) fn alone(letter: char, out: &mut impl Write) -> io::Result<()> {
+    writeln!(out, "{letter}")
 }
 
 // A refusal's three numbers.
-fn refusal(number: u8, place: usize, setting: u8, out: &mut [u8; 65536], used: &mut usize) {
-    put(out, used, b'X');
-    row(
-        out,
-        used,
-        b' ',
-        b' ',
-        &[byte(number), count(place), byte(setting)],
-    );
+fn refusal(number: u8, place: usize, setting: u8, out: &mut impl Write) -> io::Result<()> {
+    write!(out, "X {number} {place} {setting}")
 }
 
-fn refused(r: Refusal, out: &mut [u8; 65536], used: &mut usize) {
-    refusal(r.number, r.place, r.setting, out, used);
-    put(out, used, b'\n');
+fn refused(r: Refusal, out: &mut impl Write) -> io::Result<()> {
+    refusal(r.number, r.place, r.setting, out)?;
+    writeln!(out)
 }
 
-pub(crate) fn checked(answer: Checked, out: &mut [u8; 65536], used: &mut usize) {
+pub(crate) fn checked(answer: Checked, out: &mut impl Write) -> io::Result<()> {
     match answer {
-        Checked::Refused(r) => refused(r, out, used),
-        Checked::Good => alone(b'C', out, used),
+        Checked::Refused(r) => refused(r, out),
+        Checked::Good => alone('C', out),
     }
 }
 
-pub(crate) fn started(answer: Started, out: &mut [u8; 65536], used: &mut usize) {
+pub(crate) fn started(answer: Started, out: &mut impl Write) -> io::Result<()> {
     match answer {
-        Started::Refused(r) => refused(r, out, used),
-        Started::Fresh => alone(b'F', out, used),
+        Started::Refused(r) => refused(r, out),
+        Started::Fresh => alone('F', out),
     }
 }
 
-pub(crate) fn switched(answer: Switched, out: &mut [u8; 65536], used: &mut usize) {
+pub(crate) fn switched(answer: Switched, out: &mut impl Write) -> io::Result<()> {
     match answer {
-        Switched::Refused(r) => refused(r, out, used),
-        Switched::Done => alone(b'V', out, used),
+        Switched::Refused(r) => refused(r, out),
+        Switched::Done => alone('V', out),
     }
 }
 
-pub(crate) fn judged(answer: Judged, space: [u8; 512], out: &mut [u8; 65536], used: &mut usize) {
+pub(crate) fn judged(answer: Judged, space: [u8; 512], out: &mut impl Write) -> io::Result<()> {
     let Judged::Answered(a) = answer else {
         let Judged::Refused(r) = answer else {
-            return;
+            return Ok(());
         };
-        refusal(r.number, r.place, r.setting, out, used);
-        return ended(&space, 0, out, used);
+        refusal(r.number, r.place, r.setting, out)?;
+        return ended(&space, 0, out);
     };
-    answered(a, &space, out, used);
+    answered(a, &space, out)
 }
 
-fn answered(a: Answer, space: &[u8; 512], out: &mut [u8; 65536], used: &mut usize) {
+fn answered(a: Answer, space: &[u8; 512], out: &mut impl Write) -> io::Result<()> {
     let verdict = a.verdict;
     let length = a.length;
-    put(out, used, b'J');
+    write!(out, "J")?;
     row(
         out,
-        used,
-        b' ',
-        b' ',
+        ' ',
+        ' ',
         &[byte(verdict.number), short(a.rule), count(length)],
-    );
-    event(space, length, out, used);
-    ended(space, length, out, used);
+    )?;
+    event(space, length, out)?;
+    ended(space, length, out)
 }
 
-fn event(space: &[u8; 512], length: usize, out: &mut [u8; 65536], used: &mut usize) {
+fn event(space: &[u8; 512], length: usize, out: &mut impl Write) -> io::Result<()> {
     if length == 0 {
-        text(out, used, b" -");
+        write!(out, " -")
     } else {
-        put(out, used, b' ');
-        digits(space, length, out, used);
+        write!(out, " ")?;
+        digits(space, length, out)
     }
 }
 
-fn digits(space: &[u8; 512], length: usize, out: &mut [u8; 65536], used: &mut usize) {
+fn digits(space: &[u8; 512], length: usize, out: &mut impl Write) -> io::Result<()> {
     let mut i = 0;
     while i < length {
         if 512 <= i {
-            return;
+            return Ok(());
         }
-        hex(out, used, byte(space[i]), 2);
+        hex(out, byte(space[i]), 2)?;
         i += 1;
     }
+    Ok(())
 }
 
 // Is a byte from here on no longer 170?
@@ -138,84 +132,78 @@ fn dirty(space: &[u8; 512], from: usize) -> bool {
     false
 }
 
-fn ended(space: &[u8; 512], length: usize, out: &mut [u8; 65536], used: &mut usize) {
+fn ended(space: &[u8; 512], length: usize, out: &mut impl Write) -> io::Result<()> {
     if dirty(space, length) {
-        text(out, used, b" dirty\n");
+        writeln!(out, " dirty")
     } else {
-        put(out, used, b'\n');
+        writeln!(out)
     }
 }
 
-pub(crate) fn shown(bytes: &[u8], answer: Shown, out: &mut [u8; 65536], used: &mut usize)
+pub(crate) fn shown(bytes: &[u8], answer: Shown, out: &mut impl Write) -> io::Result<()>
     requires { answer ≡ shown_of bytes.now }
 {
     match answer {
-        Shown::Refused(f) => refusal(f.number(), 0, 0, out, used),
-        Shown::Shows(l) => frame(bytes, l, out, used),
-    }
-    put(out, used, b'\n');
+        Shown::Refused(f) => refusal(f.number(), 0, 0, out),
+        Shown::Shows(l) => frame(bytes, l, out),
+    }?;
+    writeln!(out)
 }
 
-fn frame(bytes: &[u8], l: Layers, out: &mut [u8; 65536], used: &mut usize)
+fn frame(bytes: &[u8], l: Layers, out: &mut impl Write) -> io::Result<()>
     requires { Inside bytes.now l }
 {
-    put(out, used, b'L');
-    link(l.link, out, used);
+    write!(out, "L")?;
+    link(l.link, out)?;
     let i = l.ip;
-    ip(i, out, used);
+    ip(i, out)?;
     let t = l.transport;
-    transport(t, out, used);
+    transport(t, out)?;
     let s = l.someip;
-    someip(bytes, s, out, used);
+    someip(bytes, s, out)
 }
 
-fn link(l: Link, out: &mut [u8; 65536], used: &mut usize) {
-    put(out, used, b' ');
-    hex(out, used, l.destination, 12);
-    put(out, used, b' ');
-    hex(out, used, l.source, 12);
+fn link(l: Link, out: &mut impl Write) -> io::Result<()> {
+    write!(out, " ")?;
+    hex(out, l.destination, 12)?;
+    write!(out, " ")?;
+    hex(out, l.source, 12)?;
     let t = l.tag;
-    tag(t, out, used);
-    row(out, used, b' ', b' ', &[short(l.ether)]);
+    tag(t, out)?;
+    row(out, ' ', ' ', &[short(l.ether)])
 }
 
-fn tag(t: Tag, out: &mut [u8; 65536], used: &mut usize) {
+fn tag(t: Tag, out: &mut impl Write) -> io::Result<()> {
     match t {
-        Tag::Untagged => text(out, used, b" -"),
-        Tag::Tagged { priority, vlan } => row(
-            out,
-            used,
-            b' ',
-            b',',
-            &[byte(priority), short(vlan)],
-        ),
+        Tag::Untagged => write!(out, " -"),
+        Tag::Tagged { priority, vlan } => row(out, ' ', ',', &[byte(priority), short(vlan)]),
     }
 }
 
-fn ip(i: Ip, out: &mut [u8; 65536], used: &mut usize) {
+fn ip(i: Ip, out: &mut impl Write) -> io::Result<()> {
     match i {
-        Ip::Absent => text(out, used, b" -"),
-        Ip::V4(p) => row(out, used, b' ', b',', &packet(p)),
-        Ip::V6(p) => packet6(p, out, used),
+        Ip::Absent => write!(out, " -"),
+        Ip::V4(p) => row(out, ' ', ',', &packet(p)),
+        Ip::V6(p) => packet6(p, out),
     }
 }
 
 // The number after the chain, or that the chain fails.
-fn packet6(p: Packet6, out: &mut [u8; 65536], used: &mut usize) {
-    text(out, used, b" 6,");
-    wide(p.source, out, used);
-    put(out, used, b',');
-    wide(p.destination, out, used);
+fn packet6(p: Packet6, out: &mut impl Write) -> io::Result<()> {
+    write!(out, " 6,")?;
+    wide(p.source, out)?;
+    write!(out, ",")?;
+    wide(p.destination, out)?;
     let c = p.chain;
     match c {
-        Chain::Fails => text(out, used, b",-"),
-        Chain::Ends { number, .. } => row(out, used, b',', b',', &[byte(number)]),
+        Chain::Fails => write!(out, ",-"),
+        Chain::Ends { number, .. } => row(out, ',', ',', &[byte(number)]),
     }
 }
 
-fn wide(a: Wide, out: &mut [u8; 65536], used: &mut usize) {
-    hex(out, used, a.high, 16);
-    hex(out, used, a.low, 16);
+fn wide(a: Wide, out: &mut impl Write) -> io::Result<()> {
+    hex(out, a.high, 16)?;
+    hex(out, a.low, 16)
 }
 
 fn packet(p: Packet) -> [u64; 4] {
@@ -227,22 +215,16 @@ fn packet(p: Packet) -> [u64; 4] {
     ]
 }
 
-fn transport(t: Transport, out: &mut [u8; 65536], used: &mut usize) {
+fn transport(t: Transport, out: &mut impl Write) -> io::Result<()> {
     match t {
-        Transport::Absent => text(out, used, b" -"),
+        Transport::Absent => write!(out, " -"),
         Transport::Tcp(s) => {
-            text(out, used, b" T");
-            row(out, used, b',', b',', &segment(s));
+            write!(out, " T")?;
+            row(out, ',', ',', &segment(s))
         }
         Transport::Udp(d) => {
-            text(out, used, b" U");
-            row(
-                out,
-                used,
-                b',',
-                b',',
-                &[short(d.source), short(d.destination)],
-            );
+            write!(out, " U")?;
+            row(out, ',', ',', &[short(d.source), short(d.destination)])
         }
     }
 }
@@ -259,29 +241,30 @@ fn segment(s: Segment) -> [u64; 7] {
     ]
 }
 
-fn someip(bytes: &[u8], s: Someip, out: &mut [u8; 65536], used: &mut usize)
+fn someip(bytes: &[u8], s: Someip, out: &mut impl Write) -> io::Result<()>
     requires { SomeipInside bytes.now s }
 {
     match s {
-        Someip::Absent => text(out, used, b" -"),
-        Someip::Present(b) => messages(bytes, b, out, used),
+        Someip::Absent => write!(out, " -"),
+        Someip::Present(b) => messages(bytes, b, out),
     }
 }
 
 // Every message, one behind the other.
-fn messages(bytes: &[u8], b: Bundle, out: &mut [u8; 65536], used: &mut usize)
+fn messages(bytes: &[u8], b: Bundle, out: &mut impl Write) -> io::Result<()>
     requires { BundleInside bytes.now b }
 {
-    let mut before = b' ';
+    let mut before = ' ';
     let mut at = b.payload;
     let mut len = b.plen;
     while len > 0 {
         let m = message_at(bytes, at);
-        row(out, used, before, b',', &message(m));
-        before = b';';
+        row(out, before, ',', &message(m))?;
+        before = ';';
         at += m.size;
         len -= m.size;
     }
+    Ok(())
 }
 
 fn message(m: Message) -> [u64; 5] {
@@ -298,24 +281,23 @@ pub(crate) fn all_records(
     head: &Head,
     counts: &Counts,
     places: &Places,
-    out: &mut [u8; 65536],
-    used: &mut usize,
-) -> bool {
-    line(b'P', &totals(head, &counts[DEFAULT]), out, used);
+    out: &mut impl Write,
+) -> io::Result<bool> {
+    line('P', &totals(head, &counts[DEFAULT]), out)?;
     let mut k = 0;
     while k < RULES {
-        rule(k, &counts[k], &places[k], out, used);
+        rule(k, &counts[k], &places[k], out)?;
         k += 1;
     }
-    alone(b'.', out, used);
-    true
+    alone('.', out)?;
+    Ok(true)
 }
 
 // A letter and numbers.
-fn line(letter: u8, numbers: &[u64], out: &mut [u8; 65536], used: &mut usize) {
-    put(out, used, letter);
-    row(out, used, b' ', b' ', numbers);
-    put(out, used, b'\n');
+fn line(letter: char, numbers: &[u64], out: &mut impl Write) -> io::Result<()> {
+    write!(out, "{letter}")?;
+    row(out, ' ', ' ', numbers)?;
+    writeln!(out)
 }
 
 // Of the words of the records, and the default's counts.
@@ -332,14 +314,13 @@ fn rule(
     k: usize,
     counts: &CountWords,
     places: &RulePlaces,
-    out: &mut [u8; 65536],
-    used: &mut usize,
-) {
+    out: &mut impl Write,
+) -> io::Result<()> {
     if empty(counts, places) {
-        return;
+        return Ok(());
     }
     line(
-        b'p',
+        'p',
         &[
             count(k),
             wide64(counts[LEVEL0]),
@@ -348,40 +329,39 @@ fn rule(
             wide64(counts[BLOCKED]),
         ],
         out,
-        used,
-    );
-    conversations(k, places, out, used);
+    )?;
+    conversations(k, places, out)
 }
 
-fn conversations(k: usize, places: &RulePlaces, out: &mut [u8; 65536], used: &mut usize) {
+fn conversations(k: usize, places: &RulePlaces, out: &mut impl Write) -> io::Result<()> {
     let mut j = 0;
     while j < PLACES {
         if state(&places[j]) != 0 {
-            conversation(k, j, &places[j], out, used);
+            conversation(k, j, &places[j], out)?;
         }
         j += 1;
     }
+    Ok(())
 }
 
-fn conversation(k: usize, j: usize, place: &PlaceWords, out: &mut [u8; 65536], used: &mut usize) {
+fn conversation(k: usize, j: usize, place: &PlaceWords, out: &mut impl Write) -> io::Result<()> {
     let q = quad(place);
-    put(out, used, b'c');
-    row(out, used, b' ', b' ', &[count(k), count(j), flag(q.second)]);
-    address(source(q), out, used);
-    address(destination(q), out, used);
-    row(out, used, b' ', b' ', &ends(q, place));
-    put(out, used, b'\n');
+    write!(out, "c")?;
+    row(out, ' ', ' ', &[count(k), count(j), flag(q.second)])?;
+    address(source(q), out)?;
+    address(destination(q), out)?;
+    row(out, ' ', ' ', &ends(q, place))?;
+    writeln!(out)
 }
 
 // An IPv4 address in decimal, an IPv6 one as 32 hex digits.
-fn address(a: Address, out: &mut [u8; 65536], used: &mut usize) {
+fn address(a: Address, out: &mut impl Write) -> io::Result<()> {
     let bits = a.bits;
     if a.ipv6 {
-        put(out, used, b' ');
-        wide(bits, out, used);
-        return;
+        write!(out, " ")?;
+        return wide(bits, out);
     }
-    row(out, used, b' ', b' ', &[bits.low]);
+    row(out, ' ', ' ', &[bits.low])
 }
 
 // Ports, state and age.

@@ -1,15 +1,18 @@
 // Prints one page: what each setting of FIN, SYN, RST and ACK counts as, and what a rule that tracks does with such a frame.
+#![tactic(auto)]
+
 mod print;
 mod row;
 
 use flags::FLAG_SETTINGS;
+use std::io;
 
-fn main() {
-    print::title();
+fn main(rt: HostRuntime) -> io::Result<()> {
+    print::title(&rt)?;
     let mut n: usize = 0;
     while n < FLAG_SETTINGS {
-        print::line(row::row_at(n));
+        print::line(&rt, row::row_at(n))?;
         n += 1;
     }
-    print::legend();
+    print::legend(&rt)
 }

@@ -25,10 +25,10 @@ ghost use Rattle.replay.specs.Position.{
 use capture::State;
 use capture::keep::keep;
 use capture::moves::end_of;
-use libc::{STDIN_FILENO, STDOUT_FILENO};
 use places::PLACE_WORDS;
 use recording::feeding::{feed, finish};
 use records::{COUNT_ROWS, Counts, HEAD_WORDS, Head, Places};
+use std::io::{Read, Write};
 use table::words::{ROW_WORDS, ROWS, TableWords};
 use table::{PLACES, RULES};
 use verdicts::COUNT_WORDS;
@@ -93,8 +93,16 @@ fn arrived(p: Position, kept: usize, got: isize, buf: &[u8], out: &mut [u8]) -> 
     }
 }
 
+// One read: how many bytes came, 0 at the end of the input, below 0 where it failed.
+fn read_once(from: &mut impl Read, buf: &mut [u8]) -> isize {
+    match from.read(buf) {
+        Ok(n) => n as isize,
+        Err(_) => -1,
+    }
+}
+
 // Keeps what was not used, and reads behind it.
-fn refill(p: Position, buf: &mut [u8], out: &mut [u8]) -> Position
+fn refill(p: Position, from: &mut impl Read, buf: &mut [u8], out: &mut [u8]) -> Position
     requires sound { Sound p }
     requires more { p.more ≡ true }
     requires buffer { length buf.old ≡ buffer_size }
@@ -105,7 +113,7 @@ fn refill(p: Position, buf: &mut [u8], out: &mut [u8]) -> Position
     let at = p.at;
     let end = p.end;
     let kept = keep(buf, at, end);
-    let got = libc::read(STDIN_FILENO, &mut buf[kept..]);
+    let got = read_once(from, &mut buf[kept..]);
     arrived(p, kept, got, buf, out)
 }
 
@@ -167,6 +175,7 @@ fn turn(
     head: &mut Head,
     counts: &mut Counts,
     places: &mut Places,
+    from: &mut impl Read,
     buf: &mut [u8],
     out: &mut [u8],
 ) -> Position
@@ -182,7 +191,7 @@ fn turn(
     ensures records { Begun (table_in t.now) (run result.place (after head counts places)) }
 {
     if p.more {
-        return refill(p, buf, out);
+        return refill(p, from, buf, out);
     }
     judge_on(t, p, head, counts, places, buf, out)
 }
@@ -214,6 +223,8 @@ fn replay(
     head: &mut Head,
     counts: &mut Counts,
     places: &mut Places,
+    from: &mut impl Read,
+    to: &mut impl Write,
     buf: &mut [u8],
     out: &mut [u8],
 ) -> Ran
@@ -226,9 +237,9 @@ fn replay(
     let mut p = start();
     let mut turns = TURNS;
     while 0 < turns {
-        p = turn(t, p, head, counts, places, buf, out);
+        p = turn(t, p, head, counts, places, from, buf, out);
         let count = p.count;
-        let printed = io::write_all(STDOUT_FILENO, &out[..count]);
+        let printed = to.write_all(&out[..count]).is_ok();
         let closed = !printed;
         if closed | is_over(p) {
             return Ran {
@@ -244,7 +255,8 @@ fn replay(
     }
 }
 
-fn main() {
+// An input that cannot be read and an output that is closed end it without a word.
+fn main(rt: HostRuntime) {
     let mut t: TableWords = [[0; ROW_WORDS]; ROWS];
     lay::table(paper::rules::table(), &mut t);
     let mut head: Head = [0; HEAD_WORDS];
@@ -252,5 +264,16 @@ fn main() {
     let mut places: Places = [[[0; PLACE_WORDS]; PLACES]; RULES];
     let mut buf = io::large_buffer();
     let mut out = io::large_buffer();
-    replay(&t, &mut head, &mut counts, &mut places, &mut buf, &mut out);
+    let mut from = rt.stdin();
+    let mut to = rt.stdout();
+    replay(
+        &t,
+        &mut head,
+        &mut counts,
+        &mut places,
+        &mut from,
+        &mut to,
+        &mut buf,
+        &mut out,
+    );
 }

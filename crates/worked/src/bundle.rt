@@ -1,7 +1,7 @@
 // Several messages in one datagram under table T: beside the worked set, for a person who reads them for the first time.
 ghost use Rattle.std.specs.Prelude.{◌≤◌, ◌<◌};
 
-use crate::print::{hex, spaces, text, wide8, wide16};
+use crate::print::{hex, spaces, wide8, wide16};
 use crate::{SOCKET, page};
 use events::ROOM;
 use firewall::Judged;
@@ -9,6 +9,7 @@ use numbers::read16;
 use paper::Frame;
 use paper::frames::{MOST, frame};
 use records::{Counts, Head, Places};
+use std::io;
 use table::words::TableWords;
 
 // Where each stands in frame A.
@@ -58,21 +59,21 @@ fn sized(a: [u8; MOST], len: usize) -> [u8; MOST]
 }
 
 // Which message the event shows.
-fn shows(answer: Judged, space: &[u8; ROOM], gap: usize) {
+fn shows(rt: &impl Print, answer: Judged, space: &[u8; ROOM], gap: usize) -> io::Result<()> {
     let Judged::Answered(a) = answer else {
-        return;
+        return Ok(());
     };
     if a.length == 0 {
-        return;
+        return Ok(());
     }
-    spaces(gap);
+    spaces(rt, gap)?;
     if read16(space, 4) == 0 {
-        return text(b"shows no message");
+        return rt.print("shows no message");
     }
-    text(b"shows service 0x");
-    hex(wide16(read16(space, 4)), 4);
-    text(b", type 0x");
-    hex(wide8(space[4 + TYPE]), 2);
+    rt.print("shows service 0x")?;
+    hex(rt, wide16(read16(space, 4)), 4)?;
+    rt.print(", type 0x")?;
+    hex(rt, wide8(space[4 + TYPE]), 2)
 }
 
 // So many messages and bytes left over, with one byte of the messages changed.
@@ -89,7 +90,8 @@ fn datagram(n: usize, over: usize, at: usize, value: u8) -> [u8; MOST]
 }
 
 fn step(
-    what: &[u8],
+    rt: &impl Print,
+    what: &str,
     n: usize,
     over: usize,
     at: usize,
@@ -98,7 +100,7 @@ fn step(
     head: &mut Head,
     counts: &mut Counts,
     places: &mut Places,
-)
+) -> io::Result<()>
     requires n { n ≤ 92 }
     requires over { over ≤ 1 }
     requires at { at < 1472 }
@@ -116,16 +118,23 @@ fn step(
         0,
         &mut space,
     );
-    let gap = page::beside(what, answer, t, &space);
-    shows(answer, &space, gap);
-    text(b"\n");
+    let gap = page::beside(rt, what, answer, t, &space)?;
+    shows(rt, answer, &space, gap)?;
+    rt.print("\n")
 }
 
-fn whole(t: &TableWords, head: &mut Head, counts: &mut Counts, places: &mut Places) {
-    step(b"one", 1, 0, TYPE, 0x80, t, head, counts, places);
-    step(b"two", 2, 0, TYPE, 0x80, t, head, counts, places);
+fn whole(
+    rt: &impl Print,
+    t: &TableWords,
+    head: &mut Head,
+    counts: &mut Counts,
+    places: &mut Places,
+) -> io::Result<()> {
+    step(rt, "one", 1, 0, TYPE, 0x80, t, head, counts, places)?;
+    step(rt, "two", 2, 0, TYPE, 0x80, t, head, counts, places)?;
     step(
-        b"two, the second of type 0x81",
+        rt,
+        "two, the second of type 0x81",
         2,
         0,
         SIZE + TYPE,
@@ -134,12 +143,19 @@ fn whole(t: &TableWords, head: &mut Head, counts: &mut Counts, places: &mut Plac
         head,
         counts,
         places,
-    );
+    )
 }
 
-fn not_cut(t: &TableWords, head: &mut Head, counts: &mut Counts, places: &mut Places) {
+fn not_cut(
+    rt: &impl Print,
+    t: &TableWords,
+    head: &mut Head,
+    counts: &mut Counts,
+    places: &mut Places,
+) -> io::Result<()> {
     step(
-        b"two, one byte left over",
+        rt,
+        "two, one byte left over",
         2,
         1,
         TYPE,
@@ -148,9 +164,10 @@ fn not_cut(t: &TableWords, head: &mut Head, counts: &mut Counts, places: &mut Pl
         head,
         counts,
         places,
-    );
+    )?;
     step(
-        b"two, the second's Length 7",
+        rt,
+        "two, the second's Length 7",
         2,
         0,
         SIZE + LENGTH,
@@ -159,13 +176,20 @@ fn not_cut(t: &TableWords, head: &mut Head, counts: &mut Counts, places: &mut Pl
         head,
         counts,
         places,
-    );
+    )
 }
 
-fn most(t: &TableWords, head: &mut Head, counts: &mut Counts, places: &mut Places) {
-    step(b"92", 92, 0, TYPE, 0x80, t, head, counts, places);
+fn most(
+    rt: &impl Print,
+    t: &TableWords,
+    head: &mut Head,
+    counts: &mut Counts,
+    places: &mut Places,
+) -> io::Result<()> {
+    step(rt, "92", 92, 0, TYPE, 0x80, t, head, counts, places)?;
     step(
-        b"92, the last of type 0x81",
+        rt,
+        "92, the last of type 0x81",
         92,
         0,
         91 * SIZE + TYPE,
@@ -174,15 +198,21 @@ fn most(t: &TableWords, head: &mut Head, counts: &mut Counts, places: &mut Place
         head,
         counts,
         places,
-    );
+    )
 }
 
 // From a fresh record: rule 10 wants service 0x1000 and type 0x80 of every message.
-pub(crate) fn bundles(t: &TableWords, head: &mut Head, counts: &mut Counts, places: &mut Places) {
-    text(
-        b"\nseveral messages in one datagram, to port 30501, each of service 0x1000 and type 0x80\n",
-    );
-    whole(t, head, counts, places);
-    not_cut(t, head, counts, places);
-    most(t, head, counts, places);
+pub(crate) fn bundles(
+    rt: &impl Print,
+    t: &TableWords,
+    head: &mut Head,
+    counts: &mut Counts,
+    places: &mut Places,
+) -> io::Result<()> {
+    rt.print(
+        "\nseveral messages in one datagram, to port 30501, each of service 0x1000 and type 0x80\n",
+    )?;
+    whole(rt, t, head, counts, places)?;
+    not_cut(rt, t, head, counts, places)?;
+    most(rt, t, head, counts, places)
 }

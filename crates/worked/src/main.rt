@@ -17,8 +17,9 @@ use paper::Line;
 use paper::frames::{MOST, frame};
 use paper::lines::{count, line};
 use places::PLACE_WORDS;
-use print::{number, text};
+use print::number;
 use records::{COUNT_ROWS, Counts, HEAD_WORDS, Head, Places};
+use std::io;
 use table::words::{ROW_WORDS, ROWS, TableWords};
 use table::{PLACES, RULES};
 use verdicts::COUNT_WORDS;
@@ -26,22 +27,29 @@ use verdicts::COUNT_WORDS;
 // "captures and M1 to M11 use socket 0", and so do the frames beside them, but for those of two sockets.
 pub(crate) const SOCKET: u8 = 0;
 
-fn fresh(t: &TableWords, head: &mut Head, counts: &mut Counts, places: &mut Places) {
+fn fresh(
+    rt: &impl Print,
+    t: &TableWords,
+    head: &mut Head,
+    counts: &mut Counts,
+    places: &mut Places,
+) -> io::Result<()> {
     let Started::Refused(r) = firewall::fresh(t, 0, head, counts, places) else {
-        return;
+        return Ok(());
     };
-    words::refused(r, t);
-    text(b"\n");
+    words::refused(rt, r, t)?;
+    rt.print("\n")
 }
 
 // One frame judged and printed; was it answered as the paper says?
 fn show(
+    rt: &impl Print,
     l: Line,
     t: &TableWords,
     head: &mut Head,
     counts: &mut Counts,
     places: &mut Places,
-) -> bool {
+) -> io::Result<bool> {
     let f = l.frame;
     let e = l.expected;
     let mut bytes = [0u8; MOST];
@@ -57,14 +65,15 @@ fn show(
         l.reading,
         &mut space,
     );
-    page::asked(l.example, f, l.reading);
-    let gap = page::answered(answer, t, &space);
-    page::records(t, counts, places, SOCKET, gap);
-    expected::met(e, answer, &space)
+    page::asked(rt, l.example, f, l.reading)?;
+    let gap = page::answered(rt, answer, t, &space)?;
+    page::records(rt, t, counts, places, SOCKET, gap)?;
+    Ok(expected::met(e, answer, &space))
 }
 
 // A fresh record, where the line begins a run; the records of the run before stay in the second ones.
 fn begin(
+    rt: &impl Print,
     l: Line,
     t: &TableWords,
     head: &mut Head,
@@ -73,17 +82,19 @@ fn begin(
     head2: &mut Head,
     counts2: &mut Counts,
     places2: &mut Places,
-) {
+) -> io::Result<()> {
     if l.fresh {
         *head2 = *head;
         *counts2 = *counts;
         *places2 = *places;
-        fresh(t, head, counts, places);
+        fresh(rt, t, head, counts, places)?;
     }
+    Ok(())
 }
 
 // Every line; the first that was not answered as the paper says, or how many there are.
 fn all(
+    rt: &impl Print,
     t: &TableWords,
     head: &mut Head,
     counts: &mut Counts,
@@ -91,45 +102,45 @@ fn all(
     head2: &mut Head,
     counts2: &mut Counts,
     places2: &mut Places,
-) -> usize {
+) -> io::Result<usize> {
     let n = count();
     let mut wrong = n;
     let mut k = 0;
     while k < n {
         let l = line(k);
-        begin(l, t, head, counts, places, head2, counts2, places2);
-        let good = show(l, t, head, counts, places);
+        begin(rt, l, t, head, counts, places, head2, counts2, places2)?;
+        let good = show(rt, l, t, head, counts, places)?;
         if !good & (wrong == n) {
             wrong = k;
         }
         k += 1;
     }
-    wrong
+    Ok(wrong)
 }
 
 // The last two runs are M11 in both orders.
-fn orders(same: bool) {
+fn orders(rt: &impl Print, same: bool) -> io::Result<()> {
     if same {
-        text(b"M11  both orders leave the same records, word by word\n");
+        rt.print("M11  both orders leave the same records, word by word\n")
     } else {
-        text(b"M11  the orders leave different records\n");
+        rt.print("M11  the orders leave different records\n")
     }
 }
 
-fn closing(wrong: usize) {
+fn closing(rt: &impl Print, wrong: usize) -> io::Result<()> {
     if wrong == count() {
-        return text(b"every frame is answered as the paper says\n");
+        return rt.print("every frame is answered as the paper says\n");
     }
-    text(b"frame ");
-    number(wrong as u64);
-    text(b", counted from 0, is not answered as the paper says\n");
+    rt.print("frame ")?;
+    number(rt, wrong as u64)?;
+    rt.print(", counted from 0, is not answered as the paper says\n")
 }
 
-fn main() {
+fn main(rt: HostRuntime) -> io::Result<()> {
     let mut t: TableWords = [[0; ROW_WORDS]; ROWS];
     lay::table(paper::rules::table(), &mut t);
-    rules::table(paper::rules::table());
-    page::title();
+    rules::table(&rt, paper::rules::table())?;
+    page::title(&rt)?;
     let mut head: Head = [0; HEAD_WORDS];
     let mut counts: Counts = [[0; COUNT_WORDS]; COUNT_ROWS];
     let mut places: Places = [[[0; PLACE_WORDS]; PLACES]; RULES];
@@ -137,6 +148,7 @@ fn main() {
     let mut counts2: Counts = [[0; COUNT_WORDS]; COUNT_ROWS];
     let mut places2: Places = [[[0; PLACE_WORDS]; PLACES]; RULES];
     let wrong = all(
+        &rt,
         &t,
         &mut head,
         &mut counts,
@@ -144,15 +156,18 @@ fn main() {
         &mut head2,
         &mut counts2,
         &mut places2,
-    );
-    orders(same::records(&head, &counts, &places, &head2, &counts2, &places2));
-    closing(wrong);
-    fresh(&t, &mut head, &mut counts, &mut places);
-    wrong::steps(&t, &mut head, &mut counts, &mut places);
-    fresh(&t, &mut head, &mut counts, &mut places);
-    bundle::bundles(&t, &mut head, &mut counts, &mut places);
-    modem::segments(&mut head, &mut counts, &mut places);
-    sockets::both(&mut head, &mut counts, &mut places);
-    wrong::tables(&mut head, &mut counts, &mut places);
-    words::settings();
+    )?;
+    orders(
+        &rt,
+        same::records(&head, &counts, &places, &head2, &counts2, &places2),
+    )?;
+    closing(&rt, wrong)?;
+    fresh(&rt, &t, &mut head, &mut counts, &mut places)?;
+    wrong::steps(&rt, &t, &mut head, &mut counts, &mut places)?;
+    fresh(&rt, &t, &mut head, &mut counts, &mut places)?;
+    bundle::bundles(&rt, &t, &mut head, &mut counts, &mut places)?;
+    modem::segments(&rt, &mut head, &mut counts, &mut places)?;
+    sockets::both(&rt, &mut head, &mut counts, &mut places)?;
+    wrong::tables(&rt, &mut head, &mut counts, &mut places)?;
+    words::settings(&rt)
 }

@@ -1,7 +1,6 @@
 // IPv6 from the new modem under table T: beside the worked set, for a person who reads them for the first time.
 ghost use Rattle.std.specs.Prelude.{◌≤◌};
 
-use crate::print::text;
 use crate::wrong::with_rule;
 use crate::{SOCKET, page, rules, words};
 use addresses::Wide;
@@ -10,6 +9,7 @@ use firewall::Started;
 use paper::frames::MOST;
 use paper::rules::table;
 use records::{Counts, Head, Places};
+use std::io;
 use table::words::{ROW_WORDS, ROWS, TableWords};
 use table::*;
 
@@ -83,7 +83,8 @@ fn segment(first: u8, n: usize, flags: u8) -> [u8; MOST]
 }
 
 fn step(
-    what: &[u8],
+    rt: &impl Print,
+    what: &str,
     first: u8,
     n: usize,
     flags: u8,
@@ -91,7 +92,7 @@ fn step(
     head: &mut Head,
     counts: &mut Counts,
     places: &mut Places,
-)
+) -> io::Result<()>
     requires { n ≤ 9 }
 {
     let bytes = segment(first, n, flags);
@@ -107,8 +108,8 @@ fn step(
         0,
         &mut space,
     );
-    let gap = page::beside(what, answer, t, &space);
-    page::records(t, counts, places, SOCKET, gap);
+    let gap = page::beside(rt, what, answer, t, &space)?;
+    page::records(rt, t, counts, places, SOCKET, gap)
 }
 
 // Rule 20 for senders of 2001:db8::/32 alone.
@@ -131,60 +132,84 @@ fn narrowed() -> Rule {
 }
 
 // From a fresh record: a chain of at most eight headers is followed.
-fn steps(t: &TableWords, head: &mut Head, counts: &mut Counts, places: &mut Places) {
-    step(b"SYN", TCP, 0, SYN, t, head, counts, places);
+fn steps(
+    rt: &impl Print,
+    t: &TableWords,
+    head: &mut Head,
+    counts: &mut Counts,
+    places: &mut Places,
+) -> io::Result<()> {
+    step(rt, "SYN", TCP, 0, SYN, t, head, counts, places)?;
     behind(
-        b"ACK behind one header",
+        rt,
+        "ACK behind one header",
         OPTIONS,
         1,
         t,
         head,
         counts,
         places,
-    );
+    )?;
     behind(
-        b"ACK behind eight headers",
+        rt,
+        "ACK behind eight headers",
         OPTIONS,
         8,
         t,
         head,
         counts,
         places,
-    );
+    )?;
     behind(
-        b"ACK behind nine headers",
+        rt,
+        "ACK behind nine headers",
         OPTIONS,
         9,
         t,
         head,
         counts,
         places,
-    );
-    behind(b"ACK in a fragment", FRAGMENT, 1, t, head, counts, places);
+    )?;
+    behind(
+        rt,
+        "ACK in a fragment",
+        FRAGMENT,
+        1,
+        t,
+        head,
+        counts,
+        places,
+    )
 }
 
-pub(crate) fn segments(head: &mut Head, counts: &mut Counts, places: &mut Places) {
-    text(b"\nIPv6 from the new modem, from 443 to 50001, the table with one change\n");
-    rules::rule(narrowed());
+pub(crate) fn segments(
+    rt: &impl Print,
+    head: &mut Head,
+    counts: &mut Counts,
+    places: &mut Places,
+) -> io::Result<()> {
+    rt.print("\nIPv6 from the new modem, from 443 to 50001, the table with one change\n")?;
+    rules::rule(rt, narrowed())?;
     let mut w: TableWords = [[0; ROW_WORDS]; ROWS];
     lay::table(with_rule(1, narrowed()), &mut w);
     let Started::Refused(r) = firewall::fresh(&w, 0, head, counts, places) else {
-        return steps(&w, head, counts, places);
+        return steps(rt, &w, head, counts, places);
     };
-    words::refused(r, &w);
+    words::refused(rt, r, &w)
 }
 
 // The segment that goes on, behind so many headers of which this is the first.
 fn behind(
-    what: &[u8],
+    rt: &impl Print,
+    what: &str,
     first: u8,
     n: usize,
     t: &TableWords,
     head: &mut Head,
     counts: &mut Counts,
     places: &mut Places,
-)
+) -> io::Result<()>
     requires { n ≤ 9 }
 {
-    step(what, first, n, ACK, t, head, counts, places);
+    step(rt, what, first, n, ACK, t, head, counts, places)
 }

@@ -1,5 +1,5 @@
 // A line of the page: what was asked, what was answered, and the records after it.
-use crate::print::{left, number, right, spaces, text, wide8, wide16};
+use crate::print::{digits, left, number, right, spaces, wide8, wide16};
 use crate::words;
 use events::{Event, ROOM};
 use firewall::Judged;
@@ -8,133 +8,145 @@ use paper::Frame;
 use places::place::{age, state};
 use places::{PlaceWords, RulePlaces};
 use records::{Counts, Places};
+use std::io;
 use steps::Answer;
 use table::words::{RuleWords, TableWords, bucket, tracking};
 use table::{Bucket, PLACES, RULES, Tracking};
 use verdicts::verdict::Verdict;
 use verdicts::{BLOCKED, CountWords, LEVEL0, LEVEL1, PASSED};
 
-pub(crate) fn title() {
-    text(
-        b"\n     frame                         reading  verdict                     rule  event                                   records\n",
-    );
+pub(crate) fn title(rt: &impl Print) -> io::Result<()> {
+    rt.print(
+        "\n     frame                         reading  verdict                     rule  event                                   records\n",
+    )
 }
 
 // Example, frame and reading.
-pub(crate) fn asked(example: u8, f: Frame, reading: u64) {
-    text(b"M");
+pub(crate) fn asked(rt: &impl Print, example: u8, f: Frame, reading: u64) -> io::Result<()> {
+    rt.print("M")?;
     if example < 10 {
-        number(wide8(example));
-        text(b"   ");
+        number(rt, wide8(example))?;
+        rt.print("   ")?;
     } else {
-        number(wide8(example));
-        text(b"  ");
+        number(rt, wide8(example))?;
+        rt.print("  ")?;
     }
-    frame(f);
-    right(reading, 7);
-    text(b"  ");
+    frame(rt, f)?;
+    right(rt, reading, 7)?;
+    rt.print("  ")
 }
 
-fn frame(f: Frame) {
+fn frame(rt: &impl Print, f: Frame) -> io::Result<()> {
     match f {
-        Frame::A => left(b"A", 30),
-        Frame::Padded => left(b"A with four zero bytes added", 30),
-        Frame::Type81 => left(b"A with type 0x81", 30),
-        Frame::Cut => left(b"A less its last byte", 30),
-        Frame::Ether0806 => left(b"0x0806", 30),
-        Frame::Ack1 => left(b"ACK from 443 to 50001", 30),
-        Frame::SynAck1 => left(b"SYN+ACK from 443 to 50001", 30),
-        Frame::Syn1 => left(b"SYN from 443 to 50001", 30),
-        Frame::Syn2 => left(b"SYN from 443 to 50002", 30),
-        Frame::Syn3 => left(b"SYN from 443 to 50003", 30),
-        Frame::Port68 => left(b"A with destination port 68", 30),
-        Frame::Port1024 => left(b"A with destination port 1024", 30),
-        Frame::First13 => left(b"13 bytes", 30),
-        Frame::Tagged17 => left(b"17 bytes, tagged", 30),
-        Frame::Longest => left(b"A with zeros to 1518 bytes", 30),
-        Frame::TooLong => left(b"A with zeros to 1519 bytes", 30),
+        Frame::A => left(rt, "A", 30),
+        Frame::Padded => left(rt, "A with four zero bytes added", 30),
+        Frame::Type81 => left(rt, "A with type 0x81", 30),
+        Frame::Cut => left(rt, "A less its last byte", 30),
+        Frame::Ether0806 => left(rt, "0x0806", 30),
+        Frame::Ack1 => left(rt, "ACK from 443 to 50001", 30),
+        Frame::SynAck1 => left(rt, "SYN+ACK from 443 to 50001", 30),
+        Frame::Syn1 => left(rt, "SYN from 443 to 50001", 30),
+        Frame::Syn2 => left(rt, "SYN from 443 to 50002", 30),
+        Frame::Syn3 => left(rt, "SYN from 443 to 50003", 30),
+        Frame::Port68 => left(rt, "A with destination port 68", 30),
+        Frame::Port1024 => left(rt, "A with destination port 1024", 30),
+        Frame::First13 => left(rt, "13 bytes", 30),
+        Frame::Tagged17 => left(rt, "17 bytes, tagged", 30),
+        Frame::Longest => left(rt, "A with zeros to 1518 bytes", 30),
+        Frame::TooLong => left(rt, "A with zeros to 1519 bytes", 30),
     }
 }
 
 // What was answered, and how many spaces are to stand before the records.
-pub(crate) fn answered(answer: Judged, t: &TableWords, space: &[u8; ROOM]) -> usize {
+pub(crate) fn answered(
+    rt: &impl Print,
+    answer: Judged,
+    t: &TableWords,
+    space: &[u8; ROOM],
+) -> io::Result<usize> {
     match answer {
         Judged::Refused(r) => {
-            words::refused(r, t);
-            56
+            words::refused(rt, r, t)?;
+            Ok(56)
         }
-        Judged::Answered(a) => judged(a, space),
+        Judged::Answered(a) => judged(rt, a, space),
     }
 }
 
 // A line beside the worked set: what came at reading 0, and what was answered.
-pub(crate) fn beside(what: &[u8], answer: Judged, t: &TableWords, space: &[u8; ROOM]) -> usize {
-    spaces(5);
-    left(what, 30);
-    right(0, 7);
-    text(b"  ");
-    answered(answer, t, space)
+pub(crate) fn beside(
+    rt: &impl Print,
+    what: &str,
+    answer: Judged,
+    t: &TableWords,
+    space: &[u8; ROOM],
+) -> io::Result<usize> {
+    spaces(rt, 5)?;
+    left(rt, what, 30)?;
+    right(rt, 0, 7)?;
+    rt.print("  ")?;
+    answered(rt, answer, t, space)
 }
 
-fn judged(a: Answer, space: &[u8; ROOM]) -> usize {
+fn judged(rt: &impl Print, a: Answer, space: &[u8; ROOM]) -> io::Result<usize> {
     let v = a.verdict;
-    verdict(v.number);
-    rule(a.rule);
+    verdict(rt, v.number)?;
+    rule(rt, a.rule)?;
     if a.length == 0 {
-        text(b"  none");
-        return 36;
+        rt.print("  none")?;
+        return Ok(36);
     }
-    text(b"  ");
-    event(read16(space, 0), wide16(read16(space, 2)))
+    rt.print("  ")?;
+    event(rt, read16(space, 0), wide16(read16(space, 2)))
 }
 
 // The number and its words, in 24 columns.
-fn verdict(n: u8) {
-    number(wide8(n));
+fn verdict(rt: &impl Print, n: u8) -> io::Result<()> {
+    number(rt, wide8(n))?;
     match n {
-        Verdict::ALLOWED => left(b" allowed", 23),
-        Verdict::ALLOWED_BY_DEFAULT => left(b" allowed by default", 23),
-        Verdict::BLOCKED_BY_RULE => left(b" blocked by rule", 23),
-        Verdict::OVER_RATE => left(b" over rate", 23),
-        Verdict::WRONG_FLAGS => left(b" wrong flags", 22),
-        Verdict::NO_CONVERSATION => left(b" no such conversation", 22),
-        Verdict::NOT_IN_STATE => left(b" not in this state", 22),
-        Verdict::NO_PLACE_FREE => left(b" no place for it", 23),
-        Verdict::BLOCKED_BY_DEFAULT => left(b" blocked by default", 23),
-        _ => spaces(23),
+        Verdict::ALLOWED => left(rt, " allowed", 23),
+        Verdict::ALLOWED_BY_DEFAULT => left(rt, " allowed by default", 23),
+        Verdict::BLOCKED_BY_RULE => left(rt, " blocked by rule", 23),
+        Verdict::OVER_RATE => left(rt, " over rate", 23),
+        Verdict::WRONG_FLAGS => left(rt, " wrong flags", 22),
+        Verdict::NO_CONVERSATION => left(rt, " no such conversation", 22),
+        Verdict::NOT_IN_STATE => left(rt, " not in this state", 22),
+        Verdict::NO_PLACE_FREE => left(rt, " no place for it", 23),
+        Verdict::BLOCKED_BY_DEFAULT => left(rt, " blocked by default", 23),
+        _ => spaces(rt, 23),
     }
 }
 
-fn rule(id: u16) {
+fn rule(rt: &impl Print, id: u16) -> io::Result<()> {
     if id == Answer::NO_RULE {
-        text(b" default");
+        rt.print(" default")
     } else {
-        right(wide16(id), 8);
+        right(rt, wide16(id), 8)
     }
 }
 
 // The events by the names that the papers have for them.
-fn event(n: u16, id: u64) -> usize {
+fn event(rt: &impl Print, n: u16, id: u64) -> io::Result<usize> {
     match n {
-        Event::RATELIMIT => named(b"over rate ", n, id),
-        Event::STATE_TRANSITION => named(b"TCP state transition ", n, id),
-        Event::MAX_CONNECTIONS => named(b"too many TCP connections ", n, id),
-        Event::LINK_MISMATCH => named(b"link mismatch ", n, id),
-        Event::IPV4_MISMATCH => named(b"IPv4 mismatch ", n, id),
-        Event::IPV6_MISMATCH => named(b"IPv6 mismatch ", n, id),
-        Event::TCP_MISMATCH => named(b"TCP mismatch ", n, id),
-        Event::UDP_MISMATCH => named(b"UDP mismatch ", n, id),
-        Event::SOMEIP_MISMATCH => named(b"SOME/IP mismatch ", n, id),
-        _ => named(b"", n, id),
+        Event::RATELIMIT => named(rt, "over rate ", n, id),
+        Event::STATE_TRANSITION => named(rt, "TCP state transition ", n, id),
+        Event::MAX_CONNECTIONS => named(rt, "too many TCP connections ", n, id),
+        Event::LINK_MISMATCH => named(rt, "link mismatch ", n, id),
+        Event::IPV4_MISMATCH => named(rt, "IPv4 mismatch ", n, id),
+        Event::IPV6_MISMATCH => named(rt, "IPv6 mismatch ", n, id),
+        Event::TCP_MISMATCH => named(rt, "TCP mismatch ", n, id),
+        Event::UDP_MISMATCH => named(rt, "UDP mismatch ", n, id),
+        Event::SOMEIP_MISMATCH => named(rt, "SOME/IP mismatch ", n, id),
+        _ => named(rt, "", n, id),
     }
 }
 
-fn named(name: &[u8], n: u16, id: u64) -> usize {
-    text(name);
-    number(wide16(n));
-    text(b" of rule ");
-    let k = number(id);
-    gap(name.len(), k)
+fn named(rt: &impl Print, name: &str, n: u16, id: u64) -> io::Result<usize> {
+    rt.print(name)?;
+    number(rt, wide16(n))?;
+    rt.print(" of rule ")?;
+    number(rt, id)?;
+    Ok(gap(name.len(), digits(id)))
 }
 
 // What is left of the event's 40 columns: 11 are those of its number and ' of rule '.
@@ -149,88 +161,101 @@ fn gap(name: usize, digits: usize) -> usize {
 }
 
 // The records of the rules that have decided a frame: of each its bucket of this socket, and its conversations.
-pub(crate) fn records(t: &TableWords, counts: &Counts, places: &Places, socket: u8, before: usize) {
+pub(crate) fn records(
+    rt: &impl Print,
+    t: &TableWords,
+    counts: &Counts,
+    places: &Places,
+    socket: u8,
+    before: usize,
+) -> io::Result<()> {
     let mut gap = before;
     let mut k = 0;
     while k < RULES {
-        gap = of_rule(&t[k], &counts[k], &places[k], socket, gap);
+        gap = of_rule(rt, &t[k], &counts[k], &places[k], socket, gap)?;
         k += 1;
     }
-    text(b"\n");
+    rt.print("\n")
 }
 
 fn of_rule(
+    rt: &impl Print,
     r: &RuleWords,
     counts: &CountWords,
     places: &RulePlaces,
     socket: u8,
     before: usize,
-) -> usize {
+) -> io::Result<usize> {
     if (counts[PASSED] == 0) & (counts[BLOCKED] == 0) {
-        return before;
+        return Ok(before);
     }
     let n = if socket == 0 {
         counts[LEVEL0]
     } else {
         counts[LEVEL1]
     };
-    let gap = level(bucket(r), n, before);
-    conversations(tracking(r), places, gap)
+    let gap = level(rt, bucket(r), n, before)?;
+    conversations(rt, tracking(r), places, gap)
 }
 
 // In frames, of which a level counts the thousandths.
-fn level(b: Bucket, n: u32, before: usize) -> usize {
+fn level(rt: &impl Print, b: Bucket, n: u32, before: usize) -> io::Result<usize> {
     let Bucket::Set(rate) = b else {
-        return before;
+        return Ok(before);
     };
-    spaces(before);
-    text(b"bucket ");
-    number(wide64(n / 1000));
-    text(b".");
-    number(wide64(n / 100 % 10));
+    spaces(rt, before)?;
+    rt.print("bucket ")?;
+    number(rt, wide64(n / 1000))?;
+    rt.print(".")?;
+    number(rt, wide64(n / 100 % 10))?;
     if n % 100 != 0 {
-        number(wide64(n / 10 % 10));
-        number(wide64(n % 10));
+        number(rt, wide64(n / 10 % 10))?;
+        number(rt, wide64(n % 10))?;
     }
-    text(b" of ");
-    number(wide16(rate.size));
-    2
+    rt.print(" of ")?;
+    number(rt, wide16(rate.size))?;
+    Ok(2)
 }
 
-fn conversations(m: Tracking, places: &RulePlaces, before: usize) -> usize {
+fn conversations(
+    rt: &impl Print,
+    m: Tracking,
+    places: &RulePlaces,
+    before: usize,
+) -> io::Result<usize> {
     let Tracking::Set(room) = m else {
-        return before;
+        return Ok(before);
     };
     let n = count8(room.places);
     let mut gap = before;
     let mut j = 0;
     while j < PLACES {
         if j < n {
-            spaces(gap);
-            gap = place(&places[j]);
+            spaces(rt, gap)?;
+            gap = place(rt, &places[j])?;
         }
         j += 1;
     }
-    gap
+    Ok(gap)
 }
 
 // Free, or a conversation's state and age.
-fn place(words: &PlaceWords) -> usize {
+fn place(rt: &impl Print, words: &PlaceWords) -> io::Result<usize> {
     let n = state(words);
     if n == 0 {
-        text(b"free");
-        return 12;
+        rt.print("free")?;
+        return Ok(12);
     }
-    phase(n);
-    right(age(words), 4);
-    text(b" ms");
-    2
+    phase(rt, n)?;
+    right(rt, age(words), 4)?;
+    rt.print(" ms")?;
+    Ok(2)
 }
 
-fn phase(state: u64) {
+fn phase(rt: &impl Print, state: u64) -> io::Result<()> {
     match state {
-        1 => text(b"Opening"),
-        2 => text(b"Running"),
-        _ => text(b"Closing"),
+        1 => rt.print("Opening"),
+        2 => rt.print("Running"),
+        _ => rt.print("Closing"),
     }
 }

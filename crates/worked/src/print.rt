@@ -1,45 +1,32 @@
-// Text on standard output, and numbers and columns made of it.
+// Numbers and columns on standard output.
+use std::io;
 
-pub(crate) fn text(s: &[u8]) {
-    io::write_all(libc::STDOUT_FILENO, s);
+pub(crate) fn number(rt: &impl Print, n: u64) -> io::Result<()> {
+    rt.print(n)
 }
 
-// The digits of a number, and how many they are.
-pub(crate) fn number(n: u64) -> usize {
-    let mut digits = [0u8; 20];
-    let k = io::decimal(n, &mut digits);
-    text(&digits[..k]);
-    k
+// How many digits a number has.
+pub(crate) fn digits(n: u64) -> usize {
+    1 + n.checked_ilog10().unwrap_or(0) as usize
 }
 
-pub(crate) fn hex(n: u64, width: usize) {
-    io::print_hex(libc::STDOUT_FILENO, n, width);
+// In hexadecimal, with zeros in front up to a width.
+pub(crate) fn hex(rt: &impl Print, n: u64, width: usize) -> io::Result<()> {
+    print!(rt; "{n:0width$x}")
 }
 
-// At most 80.
-pub(crate) fn spaces(n: usize) {
-    let blank = [b' '; 80];
-    if n <= 80 {
-        text(&blank[0..n]);
-    }
+pub(crate) fn spaces(rt: &impl Print, n: usize) -> io::Result<()> {
+    left(rt, "", n)
 }
 
 // A text and spaces up to a width.
-pub(crate) fn left(s: &[u8], width: usize) {
-    text(s);
-    if s.len() < width {
-        spaces(width - s.len());
-    }
+pub(crate) fn left(rt: &impl Print, s: &str, width: usize) -> io::Result<()> {
+    print!(rt; "{s:<width$}")
 }
 
 // Spaces and a number up to a width.
-pub(crate) fn right(n: u64, width: usize) {
-    let mut digits = [0u8; 20];
-    let k = io::decimal(n, &mut digits);
-    if k < width {
-        spaces(width - k);
-    }
-    text(&digits[..k]);
+pub(crate) fn right(rt: &impl Print, n: u64, width: usize) -> io::Result<()> {
+    print!(rt; "{n:>width$}")
 }
 
 pub(crate) fn wide8(x: u8) -> u64 {

@@ -1,5 +1,5 @@
 // Two sockets under table T: beside the worked set, for a person who reads them for the first time.
-use crate::print::{number, right, spaces, text, wide8};
+use crate::print::{number, right, spaces, wide8};
 use crate::wrong::with_rule;
 use crate::{page, rules, words};
 use events::ROOM;
@@ -8,42 +8,44 @@ use paper::Frame;
 use paper::frames::{MOST, frame};
 use paper::rules::table;
 use records::{Counts, Head, Places};
+use std::io;
 use table::words::{ROW_WORDS, ROWS, TableWords};
 use table::*;
 
 // What came at reading 0, and on which socket, in the columns of the other lines.
-fn asked(what: &[u8], socket: u8) {
-    spaces(5);
-    text(what);
-    text(b" on socket ");
-    number(wide8(socket));
+fn asked(rt: &impl Print, what: &str, socket: u8) -> io::Result<()> {
+    spaces(rt, 5)?;
+    rt.print(what)?;
+    rt.print(" on socket ")?;
+    number(rt, wide8(socket))?;
     if what.len() < 18 {
-        spaces(18 - what.len());
+        spaces(rt, 18 - what.len())?;
     }
-    right(0, 7);
-    text(b"  ");
+    right(rt, 0, 7)?;
+    rt.print("  ")
 }
 
 // A socket that does not exist has no records to show.
 fn step(
-    what: &[u8],
+    rt: &impl Print,
+    what: &str,
     f: Frame,
     socket: u8,
     t: &TableWords,
     head: &mut Head,
     counts: &mut Counts,
     places: &mut Places,
-) {
+) -> io::Result<()> {
     let mut bytes = [0u8; MOST];
     let n = frame(f, &mut bytes);
     let mut space = [0u8; ROOM];
     let answer = firewall::judge(t, head, counts, places, socket, &bytes[0..n], 0, &mut space);
-    asked(what, socket);
-    let gap = page::answered(answer, t, &space);
+    asked(rt, what, socket)?;
+    let gap = page::answered(rt, answer, t, &space)?;
     if socket > 1 {
-        return text(b"\n");
+        return rt.print("\n");
     }
-    page::records(t, counts, places, socket, gap);
+    page::records(rt, t, counts, places, socket, gap)
 }
 
 // Rule 20 with one of its two places for each socket.
@@ -60,25 +62,36 @@ fn one_each() -> Rule {
 }
 
 // From a fresh record: each socket has its number, its conversations and its bucket.
-fn steps(t: &TableWords, head: &mut Head, counts: &mut Counts, places: &mut Places) {
-    step(b"SYN to 50001", Frame::Syn1, 0, t, head, counts, places);
-    step(b"SYN to 50002", Frame::Syn2, 0, t, head, counts, places);
-    step(b"SYN to 50001", Frame::Syn1, 1, t, head, counts, places);
-    step(b"0x0806", Frame::Ether0806, 0, t, head, counts, places);
-    step(b"0x0806", Frame::Ether0806, 0, t, head, counts, places);
-    step(b"0x0806", Frame::Ether0806, 0, t, head, counts, places);
-    step(b"0x0806", Frame::Ether0806, 1, t, head, counts, places);
-    step(b"SYN to 50001", Frame::Syn1, 2, t, head, counts, places);
+fn steps(
+    rt: &impl Print,
+    t: &TableWords,
+    head: &mut Head,
+    counts: &mut Counts,
+    places: &mut Places,
+) -> io::Result<()> {
+    step(rt, "SYN to 50001", Frame::Syn1, 0, t, head, counts, places)?;
+    step(rt, "SYN to 50002", Frame::Syn2, 0, t, head, counts, places)?;
+    step(rt, "SYN to 50001", Frame::Syn1, 1, t, head, counts, places)?;
+    step(rt, "0x0806", Frame::Ether0806, 0, t, head, counts, places)?;
+    step(rt, "0x0806", Frame::Ether0806, 0, t, head, counts, places)?;
+    step(rt, "0x0806", Frame::Ether0806, 0, t, head, counts, places)?;
+    step(rt, "0x0806", Frame::Ether0806, 1, t, head, counts, places)?;
+    step(rt, "SYN to 50001", Frame::Syn1, 2, t, head, counts, places)
 }
 
-pub(crate) fn both(head: &mut Head, counts: &mut Counts, places: &mut Places) {
-    text(b"\ntwo sockets, each SYN from 443, the table with one change\n");
-    rules::rule(one_each());
+pub(crate) fn both(
+    rt: &impl Print,
+    head: &mut Head,
+    counts: &mut Counts,
+    places: &mut Places,
+) -> io::Result<()> {
+    rt.print("\ntwo sockets, each SYN from 443, the table with one change\n")?;
+    rules::rule(rt, one_each())?;
     let mut w: TableWords = [[0; ROW_WORDS]; ROWS];
     lay::table(with_rule(1, one_each()), &mut w);
     let Started::Refused(r) = firewall::fresh(&w, 0, head, counts, places) else {
-        return steps(&w, head, counts, places);
+        return steps(rt, &w, head, counts, places);
     };
-    words::refused(r, &w);
-    text(b"\n");
+    words::refused(rt, r, &w)?;
+    rt.print("\n")
 }

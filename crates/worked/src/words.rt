@@ -1,7 +1,8 @@
 // What is refused, in words; and the settings, each by its number.
-use crate::print::{number, right, text, wide8, wide16};
+use crate::print::{number, right, wide8, wide16};
 use firewall::refusal::Refusal;
 use ranges::setting_number::{SETTINGS, SettingNumber};
+use std::io;
 use table::RULES;
 use table::words::{TableWords, id};
 
@@ -63,93 +64,94 @@ const NUMBER0: u8 = SettingNumber::NUMBER0.number;
 const NUMBER1: u8 = SettingNumber::NUMBER1.number;
 
 // A refusal by its number; of a bad table also which rule, by its id and its place, and which of its settings, or that no rule is at fault.
-pub(crate) fn refused(r: Refusal, t: &TableWords) {
+pub(crate) fn refused(rt: &impl Print, r: Refusal, t: &TableWords) -> io::Result<()> {
     let n = r.number;
-    text(b"refused ");
-    number(wide8(n));
+    rt.print("refused ")?;
+    number(rt, wide8(n))?;
     match n {
-        Refusal::TOO_SHORT => text(b" too short"),
-        Refusal::TOO_LONG => text(b" too long"),
-        Refusal::NO_SPACE => text(b" event space too small"),
-        Refusal::BAD_TABLE => at_fault(r, t),
-        Refusal::BAD_RECORD => text(b" bad record"),
-        Refusal::NO_SUCH_STATE => text(b" no such state"),
-        _ => text(b" no such socket"),
+        Refusal::TOO_SHORT => rt.print(" too short"),
+        Refusal::TOO_LONG => rt.print(" too long"),
+        Refusal::NO_SPACE => rt.print(" event space too small"),
+        Refusal::BAD_TABLE => at_fault(rt, r, t),
+        Refusal::BAD_RECORD => rt.print(" bad record"),
+        Refusal::NO_SUCH_STATE => rt.print(" no such state"),
+        _ => rt.print(" no such socket"),
     }
 }
 
-fn at_fault(r: Refusal, t: &TableWords) {
+fn at_fault(rt: &impl Print, r: Refusal, t: &TableWords) -> io::Result<()> {
     let place = r.place;
     if place < RULES {
-        text(b" rule ");
-        number(wide16(id(&t[place])));
-        text(b" at place ");
-        number(place as u64);
-        text(b": ");
-        setting(r.setting);
+        rt.print(" rule ")?;
+        number(rt, wide16(id(&t[place])))?;
+        rt.print(" at place ")?;
+        number(rt, place as u64)?;
+        rt.print(": ")?;
+        setting(rt, r.setting)
     } else {
-        text(b" the states or the rule count");
+        rt.print(" the states or the rule count")
     }
 }
 
 // The page of the settings by number.
-pub(crate) fn settings() {
-    text(b"\nthe settings by number, in the order in which a fault is looked for\n");
+pub(crate) fn settings(rt: &impl Print) -> io::Result<()> {
+    rt.print("\nthe settings by number, in the order in which a fault is looked for\n")?;
     let all = SettingNumber::in_order();
     let mut k = 0;
     while k < SETTINGS {
         let s = all[k];
-        right(wide8(s.number), 8);
-        text(b"  ");
-        setting(s.number);
-        text(b"\n");
+        right(rt, wide8(s.number), 8)?;
+        rt.print("  ")?;
+        setting(rt, s.number)?;
+        rt.print("\n")?;
         k += 1;
     }
+    Ok(())
 }
 
 // By the layers, from the id up.
-fn setting(n: u8) {
+fn setting(rt: &impl Print, n: u8) -> io::Result<()> {
     match n {
-        ID => text(b"id"),
-        ACTION => text(b"action"),
-        DESTINATION_MAC => text(b"destination MAC"),
-        SOURCE_MAC => text(b"source MAC"),
-        VLAN_ID => text(b"VLAN id"),
-        PRIORITY => text(b"priority"),
-        ETHER_TYPE => text(b"ether type"),
-        SOCKET => text(b"socket"),
-        _ => above_link(n),
+        ID => rt.print("id"),
+        ACTION => rt.print("action"),
+        DESTINATION_MAC => rt.print("destination MAC"),
+        SOURCE_MAC => rt.print("source MAC"),
+        VLAN_ID => rt.print("VLAN id"),
+        PRIORITY => rt.print("priority"),
+        ETHER_TYPE => rt.print("ether type"),
+        SOCKET => rt.print("socket"),
+        _ => above_link(rt, n),
     }
 }
 
-fn above_link(n: u8) {
+fn above_link(rt: &impl Print, n: u8) -> io::Result<()> {
     match n {
-        IPV4_SOURCE => text(b"IPv4 source"),
-        IPV4_DESTINATION => text(b"IPv4 destination"),
-        IPV4_PROTOCOL => text(b"IPv4 protocol"),
-        IPV6_SOURCE => text(b"IPv6 source"),
-        IPV6_DESTINATION => text(b"IPv6 destination"),
-        IPV6_PROTOCOL => text(b"IPv6 protocol"),
-        KIND => text(b"kind"),
-        SOURCE_PORTS => text(b"source ports"),
-        DESTINATION_PORTS => text(b"destination ports"),
-        _ => above_transport(n),
+        IPV4_SOURCE => rt.print("IPv4 source"),
+        IPV4_DESTINATION => rt.print("IPv4 destination"),
+        IPV4_PROTOCOL => rt.print("IPv4 protocol"),
+        IPV6_SOURCE => rt.print("IPv6 source"),
+        IPV6_DESTINATION => rt.print("IPv6 destination"),
+        IPV6_PROTOCOL => rt.print("IPv6 protocol"),
+        KIND => rt.print("kind"),
+        SOURCE_PORTS => rt.print("source ports"),
+        DESTINATION_PORTS => rt.print("destination ports"),
+        _ => above_transport(rt, n),
     }
 }
 
-fn above_transport(n: u8) {
+fn above_transport(rt: &impl Print, n: u8) -> io::Result<()> {
     match n {
-        SERVICE => text(b"service"),
-        METHOD => text(b"method"),
-        PROTOCOL_VERSION => text(b"protocol version"),
-        MESSAGE_TYPE => text(b"message type"),
-        RETURN_CODE => text(b"return code"),
-        BUCKET_SIZE => text(b"bucket size"),
-        REFILL => text(b"refill"),
-        PLACES => text(b"places"),
-        IDLE_LIMIT => text(b"idle limit"),
-        NUMBER0 => text(b"number of socket 0"),
-        NUMBER1 => text(b"number of socket 1"),
-        _ => text(b"no setting"),
+        SERVICE => rt.print("service"),
+        METHOD => rt.print("method"),
+        PROTOCOL_VERSION => rt.print("protocol version"),
+        MESSAGE_TYPE => rt.print("message type"),
+        RETURN_CODE => rt.print("return code"),
+        BUCKET_SIZE => rt.print("bucket size"),
+        REFILL => rt.print("refill"),
+        PLACES => rt.print("places"),
+        IDLE_LIMIT => rt.print("idle limit"),
+        NUMBER0 => rt.print("number of socket 0"),
+        NUMBER1 => rt.print("number of socket 1"),
+        _ => rt.print("no setting"),
     }
 }

@@ -1,5 +1,5 @@
 // What is answered to a step that is wrong, and to a table that is: beside the worked set, for a person who reads them for the first time.
-use crate::print::{left, spaces, text};
+use crate::print::{left, spaces};
 use crate::{SOCKET, page, words};
 use events::ROOM;
 use firewall::Started;
@@ -7,6 +7,7 @@ use paper::Frame;
 use paper::frames::{MOST, frame};
 use paper::rules::table;
 use records::{Counts, Head, Places};
+use std::io;
 use table::words::{ROW_WORDS, ROWS, TableWords};
 use table::*;
 
@@ -21,31 +22,38 @@ const ACK: u8 = 16;
 
 // One frame from 443 to 50001 with these flags.
 fn step(
-    what: &[u8],
+    rt: &impl Print,
+    what: &str,
     flags: u8,
     t: &TableWords,
     head: &mut Head,
     counts: &mut Counts,
     places: &mut Places,
-) {
+) -> io::Result<()> {
     let mut bytes = [0u8; MOST];
     let n = frame(Frame::Ack1, &mut bytes);
     bytes[FLAGS] = flags;
     let mut space = [0u8; ROOM];
     let answer = firewall::judge(t, head, counts, places, SOCKET, &bytes[0..n], 0, &mut space);
-    let gap = page::beside(what, answer, t, &space);
-    page::records(t, counts, places, SOCKET, gap);
+    let gap = page::beside(rt, what, answer, t, &space)?;
+    page::records(rt, t, counts, places, SOCKET, gap)
 }
 
 // From a fresh record: wrong flags come first, whether a conversation is held or not.
-pub(crate) fn steps(t: &TableWords, head: &mut Head, counts: &mut Counts, places: &mut Places) {
-    text(b"\nwhich TCP step was wrong, from 443 to 50001\n");
-    step(b"SYN+FIN", SYN + FIN, t, head, counts, places);
-    step(b"ACK", ACK, t, head, counts, places);
-    step(b"SYN", SYN, t, head, counts, places);
-    step(b"ACK", ACK, t, head, counts, places);
-    step(b"SYN", SYN, t, head, counts, places);
-    step(b"no flag", 0, t, head, counts, places);
+pub(crate) fn steps(
+    rt: &impl Print,
+    t: &TableWords,
+    head: &mut Head,
+    counts: &mut Counts,
+    places: &mut Places,
+) -> io::Result<()> {
+    rt.print("\nwhich TCP step was wrong, from 443 to 50001\n")?;
+    step(rt, "SYN+FIN", SYN + FIN, t, head, counts, places)?;
+    step(rt, "ACK", ACK, t, head, counts, places)?;
+    step(rt, "SYN", SYN, t, head, counts, places)?;
+    step(rt, "ACK", ACK, t, head, counts, places)?;
+    step(rt, "SYN", SYN, t, head, counts, places)?;
+    step(rt, "no flag", 0, t, head, counts, places)
 }
 
 // The table with another rule at a place.
@@ -131,49 +139,79 @@ fn no_state() -> Table {
 }
 
 // A fresh record asked of this table, and what is answered.
-fn refused(what: &[u8], t: Table, head: &mut Head, counts: &mut Counts, places: &mut Places) {
+fn refused(
+    rt: &impl Print,
+    what: &str,
+    t: Table,
+    head: &mut Head,
+    counts: &mut Counts,
+    places: &mut Places,
+) -> io::Result<()> {
     let mut w: TableWords = [[0; ROW_WORDS]; ROWS];
     lay::table(t, &mut w);
-    spaces(5);
-    left(what, 39);
+    spaces(rt, 5)?;
+    left(rt, what, 39)?;
     let Started::Refused(r) = firewall::fresh(&w, 0, head, counts, places) else {
-        return text(b"good\n");
+        return rt.print("good\n");
     };
-    words::refused(r, &w);
-    text(b"\n");
+    words::refused(rt, r, &w)?;
+    rt.print("\n")
 }
 
-pub(crate) fn tables(head: &mut Head, counts: &mut Counts, places: &mut Places) {
-    text(b"\nwhich setting is at fault, the table with one change\n");
+pub(crate) fn tables(
+    rt: &impl Print,
+    head: &mut Head,
+    counts: &mut Counts,
+    places: &mut Places,
+) -> io::Result<()> {
+    rt.print("\nwhich setting is at fault, the table with one change\n")?;
     refused(
-        b"rule 10 with VLAN id 4095",
+        rt,
+        "rule 10 with VLAN id 4095",
         vlan_4095(),
         head,
         counts,
         places,
-    );
+    )?;
     refused(
-        b"rule 10 with IPv6 protocol 17 too",
+        rt,
+        "rule 10 with IPv6 protocol 17 too",
         both_kinds(),
         head,
         counts,
         places,
-    );
-    refused(b"rule 20 blocks", block_with_places(), head, counts, places);
+    )?;
     refused(
-        b"rule 30 without its refill",
+        rt,
+        "rule 20 blocks",
+        block_with_places(),
+        head,
+        counts,
+        places,
+    )?;
+    refused(
+        rt,
+        "rule 30 without its refill",
         no_refill(),
         head,
         counts,
         places,
-    );
-    refused(b"rule 40 without its kind", no_kind(), head, counts, places);
+    )?;
     refused(
-        b"rule 40 with the id of rule 10",
+        rt,
+        "rule 40 without its kind",
+        no_kind(),
+        head,
+        counts,
+        places,
+    )?;
+    refused(
+        rt,
+        "rule 40 with the id of rule 10",
         id_10(),
         head,
         counts,
         places,
-    );
-    refused(b"no vehicle state", no_state(), head, counts, places);
+    )?;
+    refused(rt, "no vehicle state", no_state(), head, counts, places)
 }
