@@ -85,7 +85,7 @@ module _ (Own Other : Turn → Type 0) (Shared : Rule → Type 0) (Sees : RuleRe
   unseen state g d x o =
       by_less d default
       (λ h. subst (λ y. Sees y.after x) (sym (at_rule t state g d x h)) (f.other (rule_at t d) g x o))
-      (λ h. subst (λ y. Sees y.after x) (sym (at_default t state g d x h)) (f.default-other (state_at t state).default x))
+      (λ h. subst (λ y. Sees y.after x) (sym (at_default t state g d x h)) (f.default_other (state_at t state).default x))
 
   -- one verdict, and the same is seen after it
   abbrev Alike : Reacted → Reacted → Type 0
