@@ -1,4 +1,6 @@
 // Judges a capture by parts: each record in its turn, and its line in a space that is lent. It does no input and no output.
+#![tactic(auto)]
+
 pub mod feeding;
 pub mod judging;
 

@@ -1,0 +1,13 @@
+use borrow.Author.Tests.{eq-eqb, ne_eqb}
+use Rattle.std.proofs.Common.{true, false}
+use Rattle.faults.specs.declared.Fault.TheVariants as fault
+use Rattle.recording.specs.Run.{event_number}
+use Rattle.recording.proofs.judging.event_number.Goals as goal
+
+pub returns-then-length-eq0 : goal.returns-then-length-eq0
+unfolding event_number
+returns-then-length-eq0 c = rw (eq-eqb _ _ c.if-length-eq0.true)
+
+pub returns : goal.returns
+unfolding event_number
+returns c = rw (ne_eqb _ _ c.if-length-eq0.false) c.read16.ensures
