@@ -1,4 +1,6 @@
 // Judges a capture on standard input under table T and prints a line a record: place, time in ms, verdict, rule and event, or its refusal.
+#![tactic(auto)]
+
 ghost use Rattle.std.specs.Prelude.{◌≡◌, true, ◌+◌, ◌≤◌, ◌<◌, length};
 ghost use Rattle.numbers.specs.Lists.{Wrote};
 ghost use Rattle.table.specs.Words.{table_in};
