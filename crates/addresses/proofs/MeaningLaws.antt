@@ -1,17 +1,17 @@
 -- What a prefix and an address mean: leading bits, and a number of its kind.
 -- Assumes nothing.
-use Prim.Native.Nat.{ℕ, zero, suc, ◌+◌, ◌-◌, ◌*◌, ◌/◌, ◌%◌, ◌^◌, ◌<◌}
+use Prim.Native.Nat.{ℕ, zero, suc, ◌+◌, ◌-◌, ◌/◌, ◌%◌, ◌^◌, ◌<◌}
 use mathlib.Core.Path.{◌≡◌, refl, sym, ap, ◌∙◌}
-use mathlib.Core.Bool.{Bool, true, false, false≢true, beq}
+use mathlib.Core.Bool.{Bool, true, false}
 use native.Mathlib.Omega.{arith}
 use native.Mathlib.Nat.{div-one}
 use native.Mathlib.Numerals.{add-one}
-use borrow.Author.Tests.{eqb-true, eq-eqb}
+use borrow.Author.Tests.{eq-eqb}
 use lib.Pow.{shr-shr, shr_lt, split}
 use lib.Arith.{digits_div, digits_mod}
 use Rattle.addresses.specs.Addresses.{value_of, same_address}
 use Rattle.addresses.specs.Prefixes.{prefix_agrees}
-use Rattle.addresses.specs.Meaning.{bit_at, PrefixAgrees, Says, v4, v6, says_of, AddressSame}
+use Rattle.addresses.specs.Meaning.{bit_at, PrefixAgrees, v4, v6, says_of, AddressSame}
 use Rattle.addresses.specs.declared.Wide.{Wide}
 use Rattle.addresses.specs.declared.Address.{Address}
 use Rattle.addresses.proofs.Prefixes.{prefix_bits}

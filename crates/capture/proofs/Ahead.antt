@@ -1,9 +1,9 @@
 -- What is still to be found: the invariant of reading by parts. It speaks of the bytes to come, so that what a call used needs no memory.
 -- Assumes nothing.
 use Prim.Native.Nat.{ℕ, zero, suc, ◌+◌, ◌-◌, ◌≤◌, ◌<◌}
-use mathlib.Core.Path.{◌≡◌, refl, sym, ap, subst, ◌∙◌}
+use mathlib.Core.Path.{◌≡◌, refl, sym, ap, ◌∙◌}
 use mathlib.Core.List.{List, [], ◌∷◌, ◌++◌, map, append_assoc, append-nil}
-use mathlib.Core.Bool.{Bool, cond, true, false, true≢false, false≢true}
+use mathlib.Core.Bool.{Bool, cond, true, false, false≢true}
 use native.Mathlib.Nat.{add-zero}
 use native.Mathlib.Omega.{arith}
 use lib.ListN.{length, take, drop, length-drop, length-append}
@@ -12,8 +12,8 @@ use lib.Dec.{ltb, eqb}
 use borrow.Author.Tests.{lt-ltb, le-ltb, ltb-true, ltb-false, ne_eqb}
 use Rattle.numbers.proofs.Lists.{cond_both}
 use Rattle.numbers.proofs.Tests.{by_test}
-use Rattle.capture.specs.Capture.{Item, BadHeader, Cut, Refused, Frame, header_size, head_size, header_of, head_of, size_of, refusal_number, item_of, stored_in, behind, items_of}
-use Rattle.capture.specs.Parts.{longest, headed, passes, record_move, move_of, items_in, Moves, last, then, moves_of, AtHand, Kept, kept, AtRest, calls, go_on, end_of, end_items, at_end, as_found}
+use Rattle.capture.specs.Capture.{Item, Cut, Refused, Frame, header_size, head_size, header_of, head_of, size_of, refusal_number, item_of, stored_in, behind, items_of}
+use Rattle.capture.specs.Parts.{longest, headed, passes, record_move, move_of, items_in, Moves, last, then, moves_of, AtHand, kept, AtRest, calls, go_on, end_of, end_items, at_end, as_found}
 use Rattle.capture.specs.declared.Form.{Form}
 use Rattle.capture.specs.declared.Head.{Head}
 use Rattle.capture.specs.declared.Header.{Header}

@@ -1,7 +1,7 @@
 -- The statements of specs/Meaning.
 -- Assumes nothing.
 use Prim.Native.Nat.{ℕ}
-use mathlib.Core.Path.{◌≡◌, ap, ◌∙◌}
+use mathlib.Core.Path.{ap, ◌∙◌}
 use mathlib.Core.Bool.{true, false}
 use mathlib.Core.List.{List, reverse, reverse-reverse}
 use lib.ListN.{length-drop}

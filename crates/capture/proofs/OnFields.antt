@@ -6,7 +6,7 @@ use mathlib.Core.List.{List, [], ◌∷◌, ◌++◌, reverse, reverse-append}
 use mathlib.Core.Bool.{Bool, cond, true, false}
 use native.Mathlib.Nat.{add_assoc, add_comm}
 use native.Mathlib.Omega.{arith}
-use lib.ListN.{length, take, drop, get_or, length-drop, length-reverse, get_or-append}
+use lib.ListN.{length, drop, length-drop, length-reverse, get_or-append}
 use lib.Seq.{drop-cons, drop-append-le, take-append-le, take-add, drop-drop, length-take-le, get_or-append-add}
 use Rattle.numbers.specs.Bytes.{byte, be}
 use Rattle.numbers.proofs.Laws.{be_one, be_two}

@@ -1,12 +1,12 @@
 -- The records of a list of bytes, one by one: that `stored_by` may cut off so many does not matter.
 -- Assumes nothing.
-use Prim.Native.Nat.{ℕ, zero, suc, ◌+◌, ◌-◌, ◌≤◌, ◌<◌}
+use Prim.Native.Nat.{ℕ, zero, suc, ◌≤◌, ◌<◌}
 use mathlib.Core.Path.{◌≡◌, refl}
 use mathlib.Core.List.{List, [], ◌∷◌}
 use native.Mathlib.Omega.{arith}
 use lib.ListN.{length, drop, length-drop}
 use borrow.Author.Tests.{lt-ltb, le-ltb}
-use Rattle.capture.specs.Capture.{Item, Cut, head_of, size_of, item_of, stored_by, stored_in}
+use Rattle.capture.specs.Capture.{Cut, head_of, size_of, item_of, stored_by, stored_in}
 use Rattle.capture.specs.declared.Form.{Form}
 
 enough : (n m : ℕ) (f : Form) (s : List ℕ) → length s ≤ n → length s ≤ m → stored_by n f s ≡ stored_by m f s

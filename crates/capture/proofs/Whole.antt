@@ -1,13 +1,10 @@
 -- However a capture comes by parts and the calls are made, what is found is what the whole holds.
 -- Assumes nothing.
-use Prim.Native.Nat.{ℕ}
-use mathlib.Core.Path.{◌≡◌, refl, sym, ap, ◌∙◌}
-use mathlib.Core.Bool.{true}
+use mathlib.Core.Path.{◌≡◌, sym, ap, ◌∙◌}
 use mathlib.Core.List.{List, [], ◌∷◌, ◌++◌, append_assoc, append-nil}
 use lib.ListN.{drop}
 use Rattle.numbers.specs.Lists.{joined, ends, said}
-use Rattle.capture.specs.Capture.{Item}
-use Rattle.capture.specs.Parts.{Moves, moves_of, Kept, kept, Happening, comes, calls, go_on, finds, at_end, all_of, AsTheWhole}
+use Rattle.capture.specs.Parts.{Moves, moves_of, Kept, kept, Happening, comes, calls, go_on, finds, all_of, AsTheWhole}
 use Rattle.capture.specs.declared.State.TheVariants as state
 use Rattle.capture.proofs.Ahead.{ahead, moves_same, move_rests}
 

@@ -1,7 +1,7 @@
 -- The event's bytes: 001 section 7.6.1, as document 01, 'Verdicts, events, refusals', fixes it.
 -- s is a frame's bytes, x what is seen of it, id the rule id that the event names.
 -- Assumes nothing.
-use Rattle.std.specs.Prelude.{ℕ, ◌/◌, ◌%◌, ◌≡◌, List, [], ◌∷◌, ◌++◌, cond, length, take, drop, eqb}
+use Rattle.std.specs.Prelude.{ℕ, ◌/◌, ◌%◌, List, [], ◌∷◌, ◌++◌, cond, take, drop, eqb}
 use Rattle.numbers.specs.Lists.{every, copies}
 use Rattle.packets.specs.Ipv6.{ipv6_bytes}
 use Rattle.packets.specs.declared.Ip.{Ip}

@@ -37,7 +37,7 @@ running = 2
 -- state and age at a place for a conversation, by the rule's table place and its own
 pub data Look : Type 0 where
   ipv4_there : Look
-  level_of_lem : ℕ → Look
+  level_of : ℕ → Look
   state_of : ℕ → ℕ → Look
   age_of : ℕ → ℕ → Look
 
@@ -146,12 +146,12 @@ unfoldable pub m5 : Example
 m5 = record {
   start = 0;
   runs =
-      (judged 0 frame0806 (answered 0 30 0) [] ((level_of_lem at30, 1000) ∷ [])
-      ∷ judged 0 frame0806 (answered 0 30 0) [] ((level_of_lem at30, 2000) ∷ [])
-      ∷ judged 0 frame0806 (answered 3 30 10) rate_event ((level_of_lem at30, 3000) ∷ [])
-      ∷ judged 1000 frame0806 (answered 3 30 10) rate_event ((level_of_lem at30, 3000) ∷ [])
-      ∷ judged 2000 frame0806 (answered 3 30 10) rate_event ((level_of_lem at30, 3000) ∷ [])
-      ∷ judged 4000 frame0806 (answered 0 30 0) [] ((level_of_lem at30, 2000) ∷ [])
+      (judged 0 frame0806 (answered 0 30 0) [] ((level_of at30, 1000) ∷ [])
+      ∷ judged 0 frame0806 (answered 0 30 0) [] ((level_of at30, 2000) ∷ [])
+      ∷ judged 0 frame0806 (answered 3 30 10) rate_event ((level_of at30, 3000) ∷ [])
+      ∷ judged 1000 frame0806 (answered 3 30 10) rate_event ((level_of at30, 3000) ∷ [])
+      ∷ judged 2000 frame0806 (answered 3 30 10) rate_event ((level_of at30, 3000) ∷ [])
+      ∷ judged 4000 frame0806 (answered 0 30 0) [] ((level_of at30, 2000) ∷ [])
       ∷ [])
       ∷ [];
   last = 4000;
@@ -201,8 +201,8 @@ m8 = record {
   start = 0;
   runs =
       (judged 1000000 syn1 (answered 0 20 0) [] ((state_of at20 0, opening) ∷ (age_of at20 0, 0) ∷ [])
-      ∷ judged 0 frame0806 (answered 0 30 0) [] ((state_of at20 0, opening) ∷ (age_of at20 0, 0) ∷ (level_of_lem at30, 1000) ∷ [])
-      ∷ judged 500 frame0806 (answered 0 30 0) [] ((state_of at20 0, opening) ∷ (age_of at20 0, 500) ∷ (level_of_lem at30, 1500) ∷ [])
+      ∷ judged 0 frame0806 (answered 0 30 0) [] ((state_of at20 0, opening) ∷ (age_of at20 0, 0) ∷ (level_of at30, 1000) ∷ [])
+      ∷ judged 500 frame0806 (answered 0 30 0) [] ((state_of at20 0, opening) ∷ (age_of at20 0, 500) ∷ (level_of at30, 1500) ∷ [])
       ∷ [])
       ∷ [];
   last = 500;
@@ -243,7 +243,7 @@ m10 = record {
 unfoldable pub m11 : Example
 m11 =
     let a = judged 500 frame_a (answered 0 10 0) [] [] in
-    let b = judged 500 frame0806 (answered 0 30 0) [] ((level_of_lem at30, 1000) ∷ []) in
+    let b = judged 500 frame0806 (answered 0 30 0) [] ((level_of at30, 1000) ∷ []) in
     record {
       start = 0;
       runs = (a ∷ b ∷ []) ∷ (b ∷ a ∷ []) ∷ [];
@@ -281,7 +281,7 @@ place_at w i j = get_or (record_at (records_of w) i).places j free
 
 abbrev pub value_of : Item → Lent → Look → ℕ
 value_of x w ipv4_there = ipv4_in x
-value_of x w (level_of_lem i) = (record_at (records_of w) i).level0
+value_of x w (level_of i) = (record_at (records_of w) i).level0
 value_of x w (state_of i j) = (place_at w i j).state
 value_of x w (age_of i j) = (place_at w i j).age
 

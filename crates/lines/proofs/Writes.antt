@@ -1,7 +1,7 @@
 -- Laws of bytes written one after the other.
 -- Assumes nothing.
-use Prim.Native.Nat.{ℕ, zero, suc, ◌+◌, ◌-◌, ◌*◌, ◌/◌, ◌%◌, ◌^◌, ◌<◌, ◌≤◌}
-use mathlib.Core.Path.{◌≡◌, refl, sym, ap, ◌∙◌}
+use Prim.Native.Nat.{ℕ, suc, ◌+◌, ◌-◌, ◌/◌, ◌%◌, ◌^◌, ◌<◌, ◌≤◌}
+use mathlib.Core.Path.{◌≡◌, refl, sym, ◌∙◌}
 use mathlib.Core.List.{List, [], ◌∷◌, ◌++◌, append_assoc, append-nil}
 use lib.ListN.{length, take, drop, set, get_or, length-append, length-set}
 use lib.Seq.{sets, sets-eq, set_at, take_at, drop_at, drop-cons, drop-drop, drop-set-lt, get_or-set_same}
@@ -12,7 +12,7 @@ use Rattle.numbers.specs.Lists.{written, Wrote}
 use Rattle.numbers.proofs.Elements.{part_all, part_none}
 use Rattle.lines.specs.Decimal.{digit, decimal, last_digits}
 use Rattle.lines.specs.Lines.{row, letter_r}
-use Rattle.lines.proofs.Decimals.{last_length, decimal_own}
+use Rattle.lines.proofs.Decimals.{decimal_own}
 
 -- bytes stored from the first place on
 pub wrote_front : (b s : List ℕ) → length b ≤ length s → Wrote b s (sets s 0 b) (length b)

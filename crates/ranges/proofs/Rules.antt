@@ -2,7 +2,7 @@
 -- Assumes nothing.
 use mathlib.Core.Path.{◌≡◌, refl}
 use mathlib.Core.List.{List, [], ◌∷◌, ◌++◌}
-use mathlib.Core.Bool.{Bool, true, false, cond, ◌&&◌, ◌||◌, beq, false≢true}
+use mathlib.Core.Bool.{Bool, true, cond, ◌&&◌, ◌||◌, beq, false≢true}
 use Rattle.numbers.proofs.Tests.{cond_skips}
 use Rattle.table.specs.Settings.{Setting, unset, set, within, is_unset, paired, of8, of16}
 use Rattle.ranges.specs.declared.setting_number.SettingNumber.{SettingNumber}

@@ -1,14 +1,14 @@
 -- Laws of a call: what it tells of what a move found, and the call as its first move and the others.
 -- Assumes nothing.
-use Prim.Native.Nat.{ℕ, zero, suc, ◌+◌, ◌-◌, ◌*◌, ◌≤◌, ◌<◌}
+use Prim.Native.Nat.{ℕ, suc, ◌+◌, ◌-◌, ◌*◌, ◌≤◌, ◌<◌}
 use mathlib.Core.Path.{◌≡◌, refl, sym, ap, subst, ◌∙◌}
-use mathlib.Core.List.{List, [], ◌∷◌, ◌++◌, map, append_assoc, append-nil}
-use mathlib.Core.Bool.{Bool, true, false}
+use mathlib.Core.List.{List, [], ◌∷◌, ◌++◌, append_assoc, append-nil}
+use mathlib.Core.Bool.{true, false}
 use native.Mathlib.Nat.{zero-add, add-zero, add_assoc}
 use native.Mathlib.Omega.{arith}
 use lib.ListN.{length, take, drop, length-append, length-drop, take-append-drop}
 use lib.Seq.{take-append_seam, take-append-add, drop-append_seam, drop-append-add, drop-drop, length-take-le}
-use Rattle.numbers.specs.Lists.{ends, said, written, Wrote}
+use Rattle.numbers.specs.Lists.{ends, Wrote}
 use Rattle.numbers.proofs.Elements.{part_all, part_none, ends_append, said_append}
 use Rattle.table.specs.declared.Table.{Table}
 use Rattle.faults.specs.declared.Fault.TheVariants as fault
@@ -21,7 +21,7 @@ use Rattle.capture.specs.declared.State.{State}
 use Rattle.capture.specs.declared.Found.{Found}
 use Rattle.capture.specs.declared.Found.TheVariants as found
 use Rattle.capture.specs.declared.Move.{Move}
-use Rattle.capture.proofs.Ahead.{moves_one, and_then, moves_more, moves_on, moves_few, moves_within}
+use Rattle.capture.proofs.Ahead.{moves_one, moves_more, moves_on, moves_few, moves_within}
 use Rattle.lines.specs.Lines.{text_of, line_room}
 use Rattle.lines.specs.declared.Line.{Line}
 use Rattle.lines.specs.declared.Line.TheVariants as line

@@ -1,9 +1,9 @@
 -- The line of a frame: what the code tells is what `judge_of` says.
 -- Assumes nothing.
 use Prim.Native.Nat.{ℕ, ◌≤◌}
-use mathlib.Core.Path.{◌≡◌, refl, sym, ap, ◌∙◌}
+use mathlib.Core.Path.{◌≡◌, sym, ap}
 use mathlib.Core.List.{List}
-use mathlib.Core.Bool.{true, false}
+use mathlib.Core.Bool.{false}
 use native.Mathlib.Omega.{arith}
 use lib.ListN.{length}
 use Rattle.numbers.specs.Lists.{copies}
@@ -17,9 +17,9 @@ use Rattle.faults.specs.declared.Fault.TheVariants as fault
 use Rattle.faults.specs.Faults.{fault_of}
 use Rattle.records.specs.Records.{Lent, records_of}
 use Rattle.events.specs.Events.{event_room}
-use Rattle.steps.specs.Steps.{Arrival, arrival, Outcome, outcome_of, Stepped, stepped, stepped_as}
+use Rattle.steps.specs.Steps.{arrival, outcome_of, Stepped, stepped, stepped_as}
 use Rattle.steps.specs.declared.Answer.{Answer}
-use Rattle.firewall.specs.Firewall.{Said, answered, bad_frame, After, says, judged_as, after_frame, judge_of}
+use Rattle.firewall.specs.Firewall.{answered, bad_frame, After, says}
 use Rattle.theorems.specs.Run.{Good, Judges}
 use Rattle.theorems.proofs.Calls.{judge_good, judge_shows}
 use Rattle.lines.specs.declared.Line.{Line}

@@ -1,14 +1,14 @@
 -- Laws of a run over the items of a capture.
 -- Assumes nothing.
-use Prim.Native.Nat.{ℕ, suc, ◌<◌, ◌≤◌}
-use mathlib.Core.Path.{◌≡◌, refl, sym, ap, subst, ◌∙◌}
+use Prim.Native.Nat.{ℕ, ◌<◌}
+use mathlib.Core.Path.{◌≡◌, refl, sym, ap, ◌∙◌}
 use mathlib.Core.List.{List, [], ◌∷◌, ◌++◌, map, append_assoc}
-use mathlib.Core.Bool.{Bool, true, false, cond, ◌&&◌, ◌||◌}
+use mathlib.Core.Bool.{Bool, true, false, cond, ◌&&◌}
 use native.Mathlib.Omega.{arith}
 use lib.ListN.{length}
 use lib.Dec.{ltb, eqb}
 use borrow.Author.Tests.{lt-ltb, le-ltb, ltb-true, eqb-false}
-use Rattle.numbers.specs.Lists.{ends, said}
+use Rattle.numbers.specs.Lists.{ends}
 use Rattle.numbers.proofs.Lists.{cond_both}
 use Rattle.packets.specs.Link.{tagged, tagged_bytes}
 use Rattle.layers.specs.Layers.{least, most, too_short, shown_of}
@@ -19,7 +19,7 @@ use Rattle.faults.specs.declared.Fault.TheVariants as fault
 use Rattle.faults.specs.Faults.{fault_of}
 use Rattle.records.specs.Records.{Lent}
 use Rattle.steps.specs.Steps.{arrival}
-use Rattle.firewall.specs.Firewall.{done, plain, bad_frame, After, says, start_of, judge_of}
+use Rattle.firewall.specs.Firewall.{done, bad_frame, After, says, start_of, judge_of}
 use Rattle.theorems.specs.Run.{Good}
 use Rattle.theorems.proofs.Calls.{judge_good}
 use Rattle.theorems.proofs.Kept.{good_kept}

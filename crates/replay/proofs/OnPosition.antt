@@ -1,8 +1,8 @@
 -- Laws of one turn, as the code makes it.
 -- Assumes nothing.
-use Prim.Native.Nat.{ℕ, zero, suc, ◌+◌, ◌-◌, ◌*◌, ◌≤◌, ◌<◌}
+use Prim.Native.Nat.{ℕ, zero, suc, ◌+◌, ◌-◌, ◌≤◌, ◌<◌}
 use mathlib.Core.Path.{◌≡◌, refl, sym, ap, subst, ◌∙◌}
-use mathlib.Core.Bool.{Bool, true, false, false≢true}
+use mathlib.Core.Bool.{Bool, true, false}
 use mathlib.Core.List.{List, [], ◌∷◌, ◌++◌}
 use native.Mathlib.Nat.{sub-zero}
 use native.Mathlib.Omega.{arith}
@@ -10,26 +10,23 @@ use lib.ListN.{length, take, drop, length-append, length-drop}
 use lib.Seq.{take-append_seam, take-append-add, length-take-le}
 use lib.IntN.{ℤ, pos, negsuc}
 use lib.Signed.{lt_z}
-use lib.Dec.{eqb, ltb}
+use lib.Dec.{eqb}
 use mir.Syntax.{w64}
 use mir.Val.{SFits, of_z, to_z}
 use mir.Facts.{to_z-of_z}
 use borrow.Author.Tests.{le-ltb, eqb-true, ne_eqb}
 use Rattle.io.specs.Counts.{clamp_len}
-use Rattle.numbers.specs.Lists.{written, Wrote}
+use Rattle.numbers.specs.Lists.{Wrote}
 use Rattle.numbers.proofs.Elements.{part_all}
 use Rattle.table.specs.declared.Table.{Table}
 use Rattle.records.specs.Records.{Lent}
-use Rattle.capture.specs.Capture.{head_size}
-use Rattle.capture.specs.Parts.{longest, Moves, moves_of}
-use Rattle.capture.specs.declared.State.{State}
+use Rattle.capture.specs.Parts.{moves_of}
 use Rattle.capture.proofs.Ahead.{moves_short}
-use Rattle.lines.specs.Lines.{line_room}
-use Rattle.recording.specs.Run.{Run, run, Begun, text_from}
+use Rattle.recording.specs.Run.{run, Begun, text_from}
 use Rattle.recording.specs.Feed.{Ready, AfterFeed, feeds, fed_of}
 use Rattle.recording.specs.declared.Fed.{Fed}
 use Rattle.recording.proofs.OnFeed.{fed_place, fed_within, fed_begun}
-use Rattle.replay.specs.Position.{buffer_size, most_moves, Standing, standing, rest_in, rest_of, text_in, Sound, is_end, is_failure, last_text, came_of, arrived_as, Came, is_done, call_of, called_as, called, first}
+use Rattle.replay.specs.Position.{buffer_size, most_moves, Standing, standing, rest_in, text_in, Sound, is_end, is_failure, last_text, came_of, arrived_as, Came, is_done, call_of, called_as, called, first}
 use Rattle.replay.specs.declared.Position.{Position}
 
 -- ---- bytes written to the start of a space

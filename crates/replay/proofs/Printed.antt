@@ -1,6 +1,6 @@
 -- The turns of a run as what happens in `ByParts`; so what they had to print is what is printed of the capture.
 -- Assumes nothing.
-use Prim.Native.Nat.{ℕ, zero, suc, ◌+◌, ◌-◌, ◌≤◌}
+use Prim.Native.Nat.{ℕ, zero, suc, ◌+◌, ◌-◌}
 use mathlib.Core.Path.{◌≡◌, refl, sym, ap, subst, ◌∙◌}
 use mathlib.Core.Bool.{Bool, true, false, ◌||◌, false≢true, true≢false}
 use mathlib.Core.List.{List, [], ◌∷◌, ◌++◌, append_assoc, append-nil}
@@ -22,10 +22,10 @@ use Rattle.capture.specs.declared.State.{State}
 use Rattle.capture.specs.declared.State.TheVariants as state
 use Rattle.capture.proofs.Ahead.{moves_rest}
 use Rattle.recording.specs.Run.{run, text_of_all, text_from, end_text, printed}
-use Rattle.recording.specs.Feed.{AfterFeed, fed_of}
+use Rattle.recording.specs.Feed.{fed_of}
 use Rattle.recording.specs.ByParts.{Going, at_start, advance, writes}
 use Rattle.recording.proofs.Whole.{by_parts}
-use Rattle.replay.specs.Position.{buffer_size, most_moves, Standing, standing, rest_in, rest_of, text_in, is_end, last_text, came_of, Came, is_done, call_of, called_as, called, Turned, is_over, led_to, AllTurned, printed_by, came_in, came_by, first, PrintsTheWhole}
+use Rattle.replay.specs.Position.{buffer_size, most_moves, Standing, standing, rest_in, rest_of, text_in, is_end, last_text, came_of, Came, is_done, call_of, called, Turned, is_over, led_to, AllTurned, printed_by, came_in, came_by, first, PrintsTheWhole}
 use Rattle.replay.specs.declared.Position.{Position}
 use Rattle.replay.proofs.OnTable.{t_good}
 

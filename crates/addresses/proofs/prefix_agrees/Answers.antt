@@ -2,7 +2,6 @@
 use native.Mathlib.Omega.{arith}
 use mathlib.Core.Path.{sym}
 use Rattle.addresses.proofs.Prefixes.{prefix_all, prefix_out, prefix_shifted}
-use Rattle.std.proofs.Common.{true}
 use Rattle.addresses.proofs.prefix_agrees.Goals as goal
 
 pub returns-then-w-n : goal.returns-then-w-n

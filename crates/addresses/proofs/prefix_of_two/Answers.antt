@@ -2,8 +2,6 @@
 use mathlib.Core.Path.{sym, ◌∙◌}
 use Rattle.addresses.proofs.Prefixes.{prefix_upper, lower_differs, lower_same}
 use native.Mathlib.Omega.{arith}
-use Rattle.std.proofs.Common.{true}
-use Rattle.addresses.specs.Prefixes.{prefix_agrees}
 use Rattle.addresses.proofs.prefix_of_two.Goals as goal
 
 pub returns-then-n-le64 : goal.returns-then-n-le64

@@ -10,7 +10,7 @@ use Rattle.table.proofs.Rows.{rule_at_lem}
 use Rattle.deciding.specs.Best.{score_of}
 use Rattle.deciding.proofs.Fitting.{fits_start, fits_taken, fits_left, fits_end, fits_none, best_fits, score_small}
 use native.Mathlib.Omega.{arith}
-use Rattle.std.proofs.Common.{◌≡◌, cond, suc, ◌<◌, ℕ, true, false, List, []}
+use Rattle.std.proofs.Common.{◌≡◌, cond, suc, ◌<◌, ℕ, List, []}
 use Rattle.numbers.specs.Lists.{leading}
 use Rattle.table.specs.Words.{rule_in, table_in}
 use Rattle.layers.specs.Seen.{seen}

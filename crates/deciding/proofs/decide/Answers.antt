@@ -1,5 +1,4 @@
 use Rattle.deciding.proofs.Fitting.{best_whole, best_part}
-use Rattle.std.proofs.Common.{rules, true, false}
 use Rattle.deciding.proofs.decide.Goals as goal
 
 pub returns-then-best-eq-LAYERS : goal.returns-then-best-eq-LAYERS

@@ -5,7 +5,7 @@ use Rattle.table.specs.Table.{is_tcp}
 use Rattle.table.specs.Words.{transport_in}
 use Rattle.table.specs.declared.TransportSettings.{TransportSettings}
 use borrow.Author.Tests.{eq-eqb, ne_eqb}
-use Rattle.std.proofs.Common.{◌≡◌, true, false}
+use Rattle.std.proofs.Common.{◌≡◌}
 use Rattle.events.specs.Events.{mismatch_of}
 use Rattle.events.proofs.mismatch.Goals as goal
 

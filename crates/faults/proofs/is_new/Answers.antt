@@ -5,7 +5,7 @@ use Rattle.faults.proofs.Ids.{once_new}
 use native.Mathlib.Omega.{arith}
 use native.Mathlib.Omega.{arith}
 use Rattle.std.proofs.Common.{ap, not}
-use Rattle.std.proofs.Common.{not, get_or, eqb, true, false}
+use Rattle.std.proofs.Common.{not, get_or, eqb}
 use Rattle.faults.proofs.is_new.Goals as goal
 
 pub returns-then-times-le1 : goal.returns-then-times-le1

@@ -1,6 +1,5 @@
 use mathlib.Core.Path.{refl, sym}
 use Rattle.table.proofs.Shifts.{shifted_out}
-use Rattle.std.proofs.Common.{true}
 use Rattle.faults.specs.Faults.{marks_good}
 use Rattle.faults.proofs.marks_good.Goals as goal
 

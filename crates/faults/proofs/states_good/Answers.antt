@@ -3,7 +3,7 @@ use borrow.Author.Tests.{le-leb, lt-leb, not-true, not-false}
 use Rattle.numbers.proofs.Lists.{below_none, below_next, below_fails}
 use native.Mathlib.Omega.{arith}
 use Rattle.std.proofs.Common.{ap, not}
-use Rattle.std.proofs.Common.{◌≡◌, not, true, false}
+use Rattle.std.proofs.Common.{◌≡◌, not}
 use Rattle.table.specs.Table.{most_states}
 use Rattle.table.specs.Words.{table_in}
 use Rattle.faults.specs.Faults.{state_good, states_good}

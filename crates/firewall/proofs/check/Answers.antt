@@ -1,7 +1,5 @@
 use mathlib.Core.Path.{sym, ◌∙◌}
 use Rattle.firewall.proofs.Laws.{check_table, check_record, check_good}
-use Rattle.std.proofs.Common.{true, false}
-use Rattle.faults.specs.declared.Fault.TheVariants as fault
 use Rattle.firewall.proofs.check.Goals as goal
 
 pub returns-then-good : goal.returns-then-good

@@ -1,6 +1,5 @@
 use mathlib.Core.Path.{sym, ◌∙◌}
 use Rattle.firewall.proofs.Laws.{start_refused, start_fresh}
-use Rattle.faults.specs.declared.Fault.TheVariants as fault
 use Rattle.firewall.proofs.fresh.Goals as goal
 
 pub returns-in_default : goal.returns-in_default

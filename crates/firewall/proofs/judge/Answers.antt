@@ -1,6 +1,5 @@
 use mathlib.Core.Path.{sym, ap, ◌∙◌}
 use Rattle.firewall.proofs.Laws.{checked_good, judge_refused, judge_socket}
-use Rattle.faults.specs.declared.Fault.TheVariants as fault
 use Rattle.firewall.specs.Firewall.{said_checked}
 use Rattle.firewall.proofs.judge.Goals as goal
 

@@ -1,8 +1,6 @@
 use mathlib.Core.Path.{sym, ap, ◌∙◌}
 use Rattle.firewall.proofs.Laws.{switch_refused, switch_beyond, switch_done}
 use native.Mathlib.Omega.{arith}
-use Rattle.std.proofs.Common.{true, false}
-use Rattle.faults.specs.declared.Fault.TheVariants as fault
 use Rattle.firewall.specs.Firewall.{said_checked}
 use Rattle.firewall.proofs.switch.Goals as goal
 

@@ -4,7 +4,6 @@ use lib.ListN.{get_or}
 use Rattle.flags.specs.Kinds.{kinds}
 use Rattle.flags.specs.declared.Flags.TheVariants as flags
 use Rattle.flags.proofs.OnKinds.{kinds_listed}
-use Rattle.flags.specs.Kinds.{entry_of}
 use Rattle.flags.proofs.flag_kind.Goals as goal
 
 pub returns : goal.returns

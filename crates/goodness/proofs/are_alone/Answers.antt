@@ -4,7 +4,7 @@ use lib.ListN.{length-map}
 use Rattle.numbers.proofs.Lists.{below_none, below_next, below_fails}
 use Rattle.goodness.proofs.StampLaws.{distinct_once}
 use native.Mathlib.Omega.{arith}
-use Rattle.std.proofs.Common.{◌≡◌, length, true, false}
+use Rattle.std.proofs.Common.{◌≡◌, length}
 use Rattle.places.specs.Places.{place_of, places_of}
 use Rattle.goodness.proofs.are_alone.Goals as goal
 

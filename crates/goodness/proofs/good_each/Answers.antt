@@ -3,7 +3,6 @@ use mathlib.Core.Path.{sym, ◌∙◌}
 use Rattle.numbers.proofs.Lists.{below_none, below_next, below_fails}
 use Rattle.goodness.proofs.GoodCode.{each_turn}
 use native.Mathlib.Omega.{arith}
-use Rattle.std.proofs.Common.{true, false}
 use Rattle.goodness.proofs.good_each.Goals as goal
 
 pub loop-j-init : goal.loop-j-init

@@ -1,12 +1,8 @@
 -- `goodness::good_room` meets its contract.
 use mathlib.Core.Path.{sym, ◌∙◌}
 use lib.ListN.{length-map}
-use Rattle.places.specs.Places.{Place}
-use Rattle.table.specs.declared.Room.{Room}
 use Rattle.goodness.proofs.GoodCode.{room_empty, room_no, held_within, room_yes}
-use Rattle.std.proofs.Common.{◌≡◌, length, true, false, List}
 use Rattle.places.specs.Places.{place_of, places_of}
-use Rattle.places.specs.Good.{each_good}
 use Rattle.goodness.proofs.good_room.Goals as goal
 
 pub returns-then-good_empty : goal.returns-then-good_empty

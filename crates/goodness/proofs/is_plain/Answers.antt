@@ -1,6 +1,5 @@
 -- `goodness::is_plain` meets its contract.
 use Rattle.goodness.proofs.GoodCode.{plain_ipv4}
-use Rattle.std.proofs.Common.{false}
 use Rattle.goodness.proofs.is_plain.Goals as goal
 
 pub returns : goal.returns

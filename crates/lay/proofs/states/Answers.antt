@@ -4,7 +4,7 @@ use lib.Seq.{drop-set-add, take_all}
 use Rattle.table.specs.Table.{no_state}
 use Rattle.lay.proofs.Laid.{rows_next}
 use native.Mathlib.Omega.{arith}
-use Rattle.std.proofs.Common.{drop, ◌+◌, true}
+use Rattle.std.proofs.Common.{drop, ◌+◌}
 use Rattle.table.specs.Words.{state_row}
 use Rattle.lay.proofs.states.Goals as goal
 

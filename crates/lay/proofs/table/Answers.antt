@@ -4,7 +4,7 @@ use lib.Seq.{drop-set-lt, take_all}
 use Rattle.table.specs.Table.{no_rule}
 use Rattle.lay.proofs.Laid.{rows_next, table_laid}
 use native.Mathlib.Omega.{arith}
-use Rattle.std.proofs.Common.{rules, ◌≡◌, true}
+use Rattle.std.proofs.Common.{◌≡◌}
 use Rattle.table.specs.Table.{most_rules}
 use Rattle.table.specs.Words.{state_row}
 use Rattle.lay.proofs.table.Goals as goal

@@ -5,7 +5,6 @@ use lib.ListN.{length, take, drop}
 use Rattle.table.specs.Table.{most_rules}
 use Rattle.table.specs.Words.{state_row, table_rows, rule_in, state_in}
 use Rattle.lay.specs.Layout.{LaidAs, rule_words, state_words}
-use borrow.Author.Rules.{rules}
 use Rattle.lay.proofs.table.Given as goal
 
 abbrev pub invariant-loop-i : goal.invariant-loop-i

@@ -3,7 +3,6 @@ use mathlib.Core.Path.{◌∙◌, ap, sym}
 use Rattle.layers.specs.declared.Shown.TheVariants.{Shows}
 use Rattle.layers.proofs.OnFrame.{refused_1, refused_2, shows}
 use native.Mathlib.Omega.{arith}
-use Rattle.std.proofs.Common.{false, true}
 use Rattle.layers.proofs.read.Goals as goal
 
 pub returns-then-is_short : goal.returns-then-is_short

@@ -1,6 +1,5 @@
 use Rattle.capture.proofs.OnFields.{number_joined, number_one}
 use native.Mathlib.Omega.{arith}
-use Rattle.std.proofs.Common.{true, false}
 use Rattle.capture.proofs.fields.half.Goals as goal
 
 pub returns-then-big-clause-value : goal.returns-then-big-clause-value

@@ -1,6 +1,5 @@
 use Rattle.capture.proofs.OnFields.{number_joined}
 use native.Mathlib.Omega.{arith}
-use Rattle.std.proofs.Common.{true, false}
 use Rattle.capture.proofs.fields.word.Goals as goal
 
 pub returns-then-big : goal.returns-then-big

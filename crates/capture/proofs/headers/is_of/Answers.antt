@@ -1,6 +1,5 @@
 use Rattle.numbers.proofs.Tests.{and-true}
 use borrow.Author.Tests.{eq-eqb, ne_eqb}
-use Rattle.std.proofs.Common.{true, false}
 use Rattle.capture.specs.Capture.{is_of}
 use Rattle.capture.proofs.headers.is_of.Goals as goal
 

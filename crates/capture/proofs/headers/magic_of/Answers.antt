@@ -1,4 +1,3 @@
-use Rattle.std.proofs.Common.{true, false}
 use Rattle.capture.specs.Capture.{magic}
 use Rattle.capture.proofs.headers.magic_of.Goals as goal
 

@@ -1,6 +1,5 @@
 use Rattle.capture.proofs.OnFields.{head_read}
 use mathlib.Core.Path.{◌∙◌}
-use Rattle.capture.specs.Capture.{time_of}
 use Rattle.capture.proofs.headers.read_head.Goals as goal
 
 pub returns : goal.returns

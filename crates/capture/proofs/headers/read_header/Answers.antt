@@ -1,5 +1,4 @@
-use Rattle.std.proofs.Common.{true, false}
-use Rattle.capture.specs.Capture.{is_of, header_of}
+use Rattle.capture.specs.Capture.{header_of}
 use Rattle.capture.proofs.headers.read_header.Goals as goal
 
 pub returns-then-is_of : goal.returns-then-is_of

@@ -1,6 +1,5 @@
 use Rattle.capture.proofs.OnFields.{time_read}
 use mathlib.Core.Path.{◌∙◌}
-use Rattle.std.proofs.Common.{true, false}
 use Rattle.capture.proofs.headers.time_of.Goals as goal
 
 pub returns-then-f : goal.returns-then-f

@@ -1,5 +1,4 @@
 use borrow.Author.Tests.{eq-eqb, ne_eqb}
-use Rattle.std.proofs.Common.{true, false}
 use Rattle.capture.specs.Parts.{end_of}
 use Rattle.capture.proofs.moves.end_of.Goals as goal
 

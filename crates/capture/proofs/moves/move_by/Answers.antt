@@ -1,5 +1,4 @@
 use borrow.Author.Tests.{lt-ltb, le-ltb}
-use Rattle.std.proofs.Common.{true, false}
 use Rattle.capture.specs.Parts.{record_move}
 use Rattle.capture.proofs.moves.move_by.Goals as goal
 

@@ -1,6 +1,5 @@
 -- `conversations::track::open_place` meets its contract.
 use Rattle.conversations.proofs.TrackLaws.{open_yes}
-use Rattle.std.proofs.Common.{true}
 use Rattle.conversations.proofs.track.open_place.Goals as goal
 
 pub returns-then-i-count8 : goal.returns-then-i-count8

@@ -1,6 +1,5 @@
 -- `conversations::track::take_step` meets its contract.
 use Rattle.conversations.proofs.TrackLaws.{step_held, step_none}
-use Rattle.std.proofs.Common.{true, false}
 use Rattle.conversations.proofs.track.take_step.Goals as goal
 
 pub returns-then-i-lt-PLACES : goal.returns-then-i-lt-PLACES

@@ -2,7 +2,6 @@
 use mathlib.Core.Path.{sym, ◌∙◌}
 use Rattle.numbers.proofs.Lists.{below_none, below_next, below_fails}
 use native.Mathlib.Omega.{arith}
-use Rattle.std.proofs.Common.{true, false}
 use Rattle.goodness.proofs.stamps.are_distinct.Goals as goal
 
 pub loop-j-init : goal.loop-j-init

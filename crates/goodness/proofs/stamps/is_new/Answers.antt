@@ -4,7 +4,6 @@ use borrow.Author.Tests.{eq-eqb, ne_eqb}
 use Rattle.numbers.proofs.Lists.{below_none, below_next, below_fails}
 use native.Mathlib.Omega.{arith}
 use Rattle.std.proofs.Common.{ap, not}
-use Rattle.std.proofs.Common.{true, false}
 use Rattle.goodness.proofs.stamps.is_new.Goals as goal
 
 pub loop-i-init : goal.loop-i-init

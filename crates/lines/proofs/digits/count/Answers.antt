@@ -1,7 +1,7 @@
 use Rattle.lines.proofs.Decimals.{decimal_one, decimal_tenth, decimal_most}
 use mathlib.Core.Path.{ap}
 use native.Mathlib.Omega.{arith}
-use Rattle.std.proofs.Common.{length, true}
+use Rattle.std.proofs.Common.{length}
 use Rattle.lines.proofs.digits.count.Goals as goal
 
 pub overflow_add-n : goal.overflow_add-n

@@ -4,8 +4,6 @@ use Rattle.packets.specs.declared.Ip.TheVariants.{V4, V6}
 use Rattle.packets.proofs.Laws.{ipv4_room}
 use Rattle.packets.proofs.OnIp.{ip_v4, ip_v6, ip_absent}
 use Rattle.packets.proofs.OnIpv6.{ipv6_fits}
-use Rattle.std.proofs.Common.{true, false}
-use Rattle.packets.specs.Ip.{ipv4_here, packet_at}
 use Rattle.packets.proofs.ip_layer.read_ip.Goals as goal
 
 pub packet_at-requires-clause-header : goal.packet_at-requires-clause-header

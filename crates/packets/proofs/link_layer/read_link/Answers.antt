@@ -1,7 +1,6 @@
 -- `packets::link_layer::read_link` meets its contract: a law for each branch, tagged and untagged.
 use mathlib.Core.Path.{◌∙◌, sym}
 use Rattle.packets.proofs.OnLink.{link_tagged, link_untagged}
-use Rattle.std.proofs.Common.{true, false}
 use Rattle.packets.proofs.link_layer.read_link.Goals as goal
 
 pub returns-then-is_tagged : goal.returns-then-is_tagged

@@ -1,8 +1,8 @@
 -- `paper::rules::table` is T: antt computes both.
 use Rattle.numbers.specs.Lists.{copies}
 use Rattle.table.specs.Table.{no_rule}
-use Rattle.std.proofs.Common.{rules, ◌∷◌}
-use Rattle.paper.specs.TableT.{rule10, rule20, rule30, rule40, table_t}
+use Rattle.std.proofs.Common.{◌∷◌}
+use Rattle.paper.specs.TableT.{table_t}
 use Rattle.paper.proofs.rules.table.Goals as goal
 
 pub returns : goal.returns

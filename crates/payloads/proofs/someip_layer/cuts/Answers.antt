@@ -3,8 +3,8 @@ use mathlib.Core.Path.{refl, sym, ◌∙◌}
 use Rattle.payloads.proofs.OnSomeip.{Passed, cuts_on, cuts_ends, cuts_nothing}
 use native.Mathlib.Omega.{arith}
 use Rattle.std.proofs.Common.{ap, not}
-use Rattle.std.proofs.Common.{◌+◌, true, false}
-use Rattle.payloads.specs.Someip.{uncounted, message_here}
+use Rattle.std.proofs.Common.{◌+◌}
+use Rattle.payloads.specs.Someip.{uncounted}
 use Rattle.payloads.proofs.someip_layer.cuts.Goals as goal
 
 -- a whole message stands at `at`, and what is behind it tells

@@ -2,7 +2,6 @@
 use mathlib.Core.Path.{sym, ◌∙◌}
 use Rattle.payloads.proofs.OnSomeip.{someip_present, someip_absent, someip_nothing}
 use native.Mathlib.Omega.{arith}
-use Rattle.std.proofs.Common.{true, false}
 use Rattle.payloads.proofs.someip_layer.someip_at.Goals as goal
 
 pub returns-then-len-eq0 : goal.returns-then-len-eq0

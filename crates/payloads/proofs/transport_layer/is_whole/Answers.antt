@@ -1,7 +1,6 @@
 -- `payloads::transport_layer::is_whole` meets its contract: more-fragments first, then the offset.
 use Rattle.payloads.proofs.OnTransport.{more_fragments_lem, by_offset}
 use native.Mathlib.Omega.{arith}
-use Rattle.std.proofs.Common.{false}
 use Rattle.payloads.proofs.transport_layer.is_whole.Goals as goal
 
 pub returns-then-f-ne0 : goal.returns-then-f-ne0

@@ -4,8 +4,6 @@ use Rattle.payloads.specs.declared.Transport.TheVariants.{Tcp, Udp}
 use Rattle.payloads.proofs.Laws.{tcp_fits, udp_fits}
 use Rattle.payloads.proofs.OnTransport.{shows_tcp, shows_udp, shows_neither}
 use native.Mathlib.Omega.{arith}
-use Rattle.std.proofs.Common.{true, false}
-use Rattle.payloads.specs.Transport.{tcp_here, udp_here, segment_at, datagram_at}
 use Rattle.payloads.proofs.transport_layer.transport_at.Goals as goal
 
 pub segment_at-requires : goal.segment_at-requires

@@ -1,8 +1,6 @@
 -- `payloads::transport_layer::transport_in` meets its contract: a whole packet or a fragment.
 use mathlib.Core.Path.{◌∙◌, sym}
 use Rattle.payloads.proofs.OnTransport.{whole, fragment}
-use Rattle.std.proofs.Common.{true, false}
-use Rattle.payloads.specs.Transport.{transport_at}
 use Rattle.payloads.proofs.transport_layer.transport_in.Goals as goal
 
 pub returns-then-is_whole : goal.returns-then-is_whole

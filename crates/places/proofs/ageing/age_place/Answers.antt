@@ -1,7 +1,6 @@
 -- `conversations::ageing::age_place` meets its contract.
 use Rattle.places.proofs.AgeingLaws.{place_free, place_older, place_old}
 use native.Mathlib.Omega.{arith}
-use Rattle.std.proofs.Common.{true, false}
 use Rattle.places.proofs.ageing.age_place.Goals as goal
 use Rattle.places.proofs.ageing.age_place.Goals.{then-elapsed-most+else-w-most, else-elapsed-most}
 

@@ -1,7 +1,5 @@
 -- `places::place::is_held_by` meets its contract.
 use Rattle.places.proofs.HoldLaws.{free_not, held_same}
-use Rattle.std.proofs.Common.{true, false}
-use Rattle.places.specs.Places.{same_quad}
 use Rattle.places.proofs.place.is_held_by.Goals as goal
 
 pub returns-then-p-eq0 : goal.returns-then-p-eq0

@@ -2,7 +2,6 @@
 use mathlib.Core.Path.{ap₂, ◌∙◌}
 use Rattle.addresses.specs.Addresses.{same_address}
 use Rattle.places.proofs.HoldLaws.{ports_differ, ports_same}
-use Rattle.std.proofs.Common.{true, false}
 use Rattle.places.proofs.place.same_quad.Goals as goal
 
 pub returns-then-a-b : goal.returns-then-a-b

@@ -1,6 +1,5 @@
 use native.Mathlib.Omega.{arith}
 use Rattle.recording.proofs.OnFeed.{underway_next, underway_last, underway_done}
-use Rattle.std.proofs.Common.{true, false}
 use Rattle.recording.proofs.feeding.feed.Goals as goal
 
 pub returns-then-f : goal.returns-then-f

@@ -1,6 +1,4 @@
 use borrow.Author.Tests.{eq-eqb, ne_eqb}
-use Rattle.std.proofs.Common.{true, false}
-use Rattle.faults.specs.declared.Fault.TheVariants as fault
 use Rattle.recording.specs.Run.{event_number}
 use Rattle.recording.proofs.judging.event_number.Goals as goal
 

@@ -2,10 +2,9 @@ use mathlib.Core.Path.{sym, subst, ◌∙◌}
 use Rattle.theorems.specs.Run.{Good}
 use Rattle.recording.proofs.OnJudging.{blank_room, frame_refused, frame_judged}
 use Rattle.recording.proofs.OnRun.{begun_good}
-use Rattle.faults.specs.declared.Fault.TheVariants as fault
 use Rattle.table.specs.Words.{table_in}
 use Rattle.records.specs.Records.{lent}
-use Rattle.recording.specs.Run.{run, event_number}
+use Rattle.recording.specs.Run.{run}
 use Rattle.recording.proofs.judging.judge.Goals as goal
 
 pub returns-in-Refused-clause-line : goal.returns-in-Refused-clause-line

@@ -2,7 +2,6 @@
 use Rattle.table.proofs.Rows.{rule_at_lem}
 use Rattle.records.proofs.ActLaws.{act_rule, act_default}
 use native.Mathlib.Omega.{arith}
-use Rattle.std.proofs.Common.{true}
 use Rattle.table.specs.Words.{table_in}
 use Rattle.records.proofs.act.act.Goals as goal
 

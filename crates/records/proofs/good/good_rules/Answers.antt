@@ -3,7 +3,7 @@ use mathlib.Core.Path.{sym, ap, ◌∙◌}
 use Rattle.numbers.proofs.Lists.{below_none, below_next, below_fails}
 use Rattle.records.proofs.GoodCode.{good_at, rule_good, slots_are}
 use native.Mathlib.Omega.{arith}
-use Rattle.std.proofs.Common.{rules, ◌≡◌, true, false}
+use Rattle.std.proofs.Common.{◌≡◌}
 use Rattle.numbers.specs.Lists.{all_below}
 use Rattle.table.specs.Words.{table_in}
 use Rattle.records.proofs.good.good_rules.Goals as goal

@@ -6,7 +6,6 @@ use Rattle.table.specs.Table.{no_rule}
 use Rattle.table.specs.Words.{table_in}
 use Rattle.records.specs.Records.{rule_records}
 use Rattle.verdicts.specs.Rule.{aged}
-use borrow.Author.Rules.{rules}
 use Rattle.records.proofs.time.age_rules.Given as goal
 
 abbrev pub invariant-loop-i : goal.invariant-loop-i

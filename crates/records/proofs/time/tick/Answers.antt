@@ -1,7 +1,6 @@
 -- `records::time::tick` meets its contract.
 use Rattle.records.proofs.TimeLaws.{tick_still, tick_aged}
 use native.Mathlib.Omega.{arith}
-use Rattle.std.proofs.Common.{true}
 use Rattle.table.specs.Words.{table_in}
 use Rattle.records.proofs.time.tick.Goals as goal
 

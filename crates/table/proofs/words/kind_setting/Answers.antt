@@ -1,7 +1,6 @@
 use mathlib.Core.Path.{sym, ap, ◌∙◌}
 use Rattle.table.specs.declared.KindSetting.TheVariants as set_kind
-use Rattle.std.proofs.Common.{true, false}
-use Rattle.table.specs.Words.{is_set, kind_setting_in}
+use Rattle.table.specs.Words.{kind_setting_in}
 use Rattle.table.proofs.words.kind_setting.Goals as goal
 
 pub returns-then-is_set : goal.returns-then-is_set

@@ -1,7 +1,6 @@
 -- `table::words::prefix6` meets its contract.
 use mathlib.Core.Path.{sym, ◌∙◌}
-use Rattle.std.proofs.Common.{true, false}
-use Rattle.table.specs.Words.{is_set, prefix6_in}
+use Rattle.table.specs.Words.{prefix6_in}
 use Rattle.table.proofs.words.prefix6.Goals as goal
 
 pub returns-then-is_set : goal.returns-then-is_set

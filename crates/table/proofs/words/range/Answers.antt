@@ -1,6 +1,5 @@
 use mathlib.Core.Path.{sym, ◌∙◌}
-use Rattle.std.proofs.Common.{true, false}
-use Rattle.table.specs.Words.{is_set, range_in}
+use Rattle.table.specs.Words.{range_in}
 use Rattle.table.proofs.words.range.Goals as goal
 
 pub returns-then-is_set : goal.returns-then-is_set

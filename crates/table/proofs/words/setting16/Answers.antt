@@ -1,6 +1,5 @@
 use mathlib.Core.Path.{sym, ◌∙◌}
-use Rattle.std.proofs.Common.{true, false}
-use Rattle.table.specs.Words.{is_set, setting16_in}
+use Rattle.table.specs.Words.{setting16_in}
 use Rattle.table.proofs.words.setting16.Goals as goal
 
 pub returns-then-is_set : goal.returns-then-is_set

@@ -2,7 +2,7 @@
 use mathlib.Core.Path.{◌∙◌}
 use Rattle.table.specs.declared.Tracking.TheVariants as tracking
 use Rattle.table.proofs.TrackingLaws.{tracking_set, tracking_none}
-use Rattle.std.proofs.Common.{◌%◌, true, false}
+use Rattle.std.proofs.Common.{◌%◌}
 use Rattle.table.proofs.words.tracking.Goals as goal
 
 pub returns-then-r-ne15 : goal.returns-then-r-ne15

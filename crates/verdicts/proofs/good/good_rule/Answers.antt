@@ -1,7 +1,6 @@
 -- `records::good::good_rule` meets its contract.
 use mathlib.Core.Path.{sym, ◌∙◌}
 use Rattle.verdicts.proofs.GoodCode.{rule_yes, rule_no}
-use Rattle.std.proofs.Common.{true, false}
 use Rattle.table.specs.Words.{rule_in}
 use Rattle.verdicts.specs.Record.{rule_of}
 use Rattle.verdicts.proofs.good.good_rule.Goals as goal

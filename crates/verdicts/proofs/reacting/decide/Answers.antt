@@ -8,7 +8,6 @@ use Rattle.conversations.specs.Tracking.{tracked}
 use Rattle.verdicts.specs.Rule.{over, as_tracked}
 use Rattle.verdicts.proofs.ReactLaws.{stays, tracks, decide_block, decide_over, decide_track}
 use Rattle.std.proofs.Common.{ap, not}
-use Rattle.std.proofs.Common.{true, false}
 use Rattle.table.specs.Words.{rule_in}
 use Rattle.places.specs.Places.{places_of}
 use Rattle.verdicts.proofs.reacting.decide.Goals as goal
