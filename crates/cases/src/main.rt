@@ -1,4 +1,6 @@
 // Reads a stream of calls, makes each through the entry points, and prints what they answered (docs/CASES.md).
+#![tactic(auto)]
+
 mod calls;
 mod image;
 mod input;

@@ -1,5 +1,7 @@
 // Judges M1 to M11 of the paper's worked set and prints them, a line for each frame; then wrong steps, bundles of messages, segments over IPv6, frames on two sockets, wrong tables.
 // Everything goes through the entry points.
+#![tactic(auto)]
+
 mod bundle;
 mod expected;
 mod modem;
