@@ -1,3 +1,4 @@
+pub mod OnBytes
 pub mod OnPosition
 pub mod OnTable
 pub mod OnTurns

@@ -7,7 +7,7 @@ use mathlib.Core.List.{List, [], ◌∷◌, ◌++◌}
 use native.Mathlib.Nat.{sub-zero}
 use native.Mathlib.Omega.{arith}
 use lib.ListN.{length, take, drop, length-append, length-drop}
-use lib.Seq.{take-append_seam, take-append-add, length-take-le}
+use lib.Seq.{take-append_seam, take-append-le, take-append-add, drop-append_seam, length-take-le}
 use lib.IntN.{ℤ, pos, negsuc}
 use lib.Signed.{lt_z}
 use lib.Dec.{eqb}
@@ -15,6 +15,9 @@ use mir.Syntax.{w64}
 use mir.Val.{SFits, of_z, to_z}
 use mir.Facts.{to_z-of_z}
 use borrow.Author.Tests.{le-ltb, eqb-true, ne_eqb}
+use Rattle.std.specs.Prelude.{Option}
+use Rattle.std.specs.Io.{ReadsAtMost}
+use Rattle.std.specs.Io.KnownBytes.{Consumes, ReadConsumes}
 use Rattle.io.specs.Counts.{clamp_len}
 use Rattle.numbers.specs.Lists.{Wrote}
 use Rattle.numbers.proofs.Elements.{part_all}
@@ -26,8 +29,9 @@ use Rattle.recording.specs.Run.{run, Begun, text_from}
 use Rattle.recording.specs.Feed.{Ready, AfterFeed, feeds, fed_of}
 use Rattle.recording.specs.declared.Fed.{Fed}
 use Rattle.recording.proofs.OnFeed.{fed_place, fed_within, fed_begun}
-use Rattle.replay.specs.Position.{buffer_size, most_moves, Standing, standing, rest_in, text_in, Sound, is_end, is_failure, last_text, came_of, arrived_as, Came, is_done, call_of, called_as, called, first}
+use Rattle.replay.specs.Position.{buffer_size, most_moves, Standing, standing, rest_in, text_in, Sound, is_end, is_failure, answer_of, last_text, came_of, arrived_as, brought, Came, is_done, call_of, called_as, called, first}
 use Rattle.replay.specs.declared.Position.{Position}
+use Rattle.replay.proofs.OnBytes.{takes_came}
 
 -- ---- bytes written to the start of a space
 
@@ -142,6 +146,21 @@ module _ (p : Position) (buf : List ℕ) (sound : Sound p) (size : length buf �
             ∙ (ap (last_text p.state n) (ap (λ (r : Position). r.ended) e) ∙ ap (λ k. last_text p.state k (is_end got)) wrote.count);
       }
 
+      -- what came was the next of the input
+      pub came_input :
+          (x r : List ℕ) (input input' : Option (List ℕ)) (told : ℤ) → length x ≡ buffer_size - n → got ≡ told → ReadsAtMost (answer_of told) x
+          → ReadConsumes input input' (answer_of told) x → Consumes input input' (brought p buf q (take n b ++ (x ++ r)))
+      came_input x r input input' told size same most h =
+          let k : ℕ = came_of n got in
+          let behind : brought p buf q (take n b ++ (x ++ r)) ≡ take k x =
+          ap (λ (s : Position). brought p buf s (take n b ++ (x ++ r))) e
+          ∙ (ap (drop (length (rest_in p buf))) (rest_came (x ++ r))
+          ∙ (drop-append_seam (rest_in p buf) (take k (x ++ r)) ∙ take-append-le k x r (rw size (clamped_most got (buffer_size - n))))) in
+          subst (Consumes input input') (sym behind)
+          (subst (λ m. Consumes input input' (take (clamp_len got m) x)) size
+          (takes_came input input' got x (subst (λ z. ReadsAtMost (answer_of z) x) (sym same) most)
+          (subst (λ z. ReadConsumes input input' (answer_of z) x) (sym same) h)))
+
 -- what a read left to be printed lies in the output
 pub came_room : (x y : Standing) → Came x y → y.position.count ≤ length y.out
 came_room x y c = omega (arith, count, room y.position.count y.out)
@@ -153,6 +172,10 @@ came_room x y c = omega (arith, count, room y.position.count y.out)
     room zero l = omega arith
     room (suc n) [] = omega arith
     room (suc n) (b ∷ l) = omega (arith, room n l)
+
+-- and it finds no record
+pub came_place : (x y : Standing) → Came x y → y.position.place ≡ x.position.place
+came_place x y c = ap (λ (q : Position). q.place) c.position
 
 -- ---- a call
 

@@ -6,29 +6,49 @@ use mathlib.Core.Bool.{Bool, true, false, ◌||◌, true≢false}
 use mathlib.Core.List.{List, [], ◌∷◌}
 use native.Mathlib.Omega.{arith}
 use lib.ListN.{length}
+use Rattle.std.specs.Prelude.{Option, Result, Ok, Err, OnOk, is_ok, not}
+use Rattle.std.specs.Io.KnownBytes.{Consumes, Appends}
 use Rattle.table.specs.declared.Table.{Table}
-use Rattle.replay.specs.Position.{most_turns, Standing, Turned, is_over, led_to, AllTurned, RunsTo}
+use Rattle.replay.specs.Position.{most_turns, Standing, text_in, Turned, is_over, led_to, AllTurned, printed_by, came_in, came_by, RunsTo}
+use Rattle.replay.proofs.OnBytes.{takes_none, takes_more, adds_none, adds_more}
 
--- the turns so far, where so many are left
-pub record Turns (t : Table) (x y : Standing) (left : ℕ) : Type 0 where
+-- what an input has left, and what an output holds, at the start and by now
+pub record Ends : Type 0 where
+  pub input : Option (List ℕ)
+  pub input' : Option (List ℕ)
+  pub output : Option (List ℕ)
+  pub output' : Option (List ℕ)
+
+-- the turns so far, where so many are left; what they had to print is printed where the output is not closed
+pub record Turns (t : Table) (x y : Standing) (left : ℕ) (e : Ends) (closed : Bool) : Type 0 where
   pub made : List Standing
   pub each : AllTurned t x made
   pub last : y ≡ led_to x made
   pub count : length made + left ≡ most_turns
+  pub took : Consumes e.input e.input' (came_by x made)
+  pub told : closed ≡ false → Appends e.output e.output' (printed_by made)
 
-pub start_turns : (t : Table) (x : Standing) → Turns t x x most_turns
-start_turns t x = record { made = []; each = tt; last = refl; count = omega arith }
+pub start_turns : (t : Table) (x : Standing) (i o : Option (List ℕ)) → Turns t x x most_turns (record { input = i; input' = i; output = o; output' = o }) false
+start_turns t x i o =
+    record { made = []; each = tt; last = refl; count = omega arith; took = takes_none i; told = λ c. adds_none o }
 
-module _ {t : Table} {x y : Standing} {left : ℕ} (r : Turns t x y left) where
-  pub next_turns : (z : Standing) → 0 < left → is_over y.position ≡ false → Turned t y z → Turns t x z (left - 1)
-  next_turns z some goes turned = record {
-    made = z ∷ r.made;
-    each =
-        ((subst (λ (u : Standing). is_over u.position ≡ false) r.last goes, subst (λ (u : Standing). Turned t u z) r.last turned), r.each);
-    last = refl;
-    count = omega (arith, r.count);
-  }
+pub next_turns :
+    {t : Table} {x y : Standing} {left : ℕ} {e : Ends} (r : Turns t x y left e false) (closed : Bool) (z : Standing) (i o : Option (List ℕ))
+    → 0 < left → is_over y.position ≡ false → Turned t y z → Consumes e.input' i (came_in y z)
+    → (closed ≡ false → Appends e.output' o (text_in z))
+    → Turns t x z (left - 1) (record { input = e.input; input' = i; output = e.output; output' = o }) closed
+next_turns {t = t} {x = x} {e = e} r closed z i o some goes turned takes adds = record {
+  made = z ∷ r.made;
+  each = ((subst (λ (u : Standing). is_over u.position ≡ false) r.last goes, subst (λ (u : Standing). Turned t u z) r.last turned), r.each);
+  last = refl;
+  count = omega (arith, r.count);
+  took =
+      takes_more e.input e.input' i (came_by x r.made) (came_in (led_to x r.made) z) r.took
+      (subst (λ (u : Standing). Consumes e.input' i (came_in u z)) r.last takes);
+  told = λ c. adds_more e.output e.output' o (printed_by r.made) (text_in z) (r.told refl) (adds c);
+}
 
+module _ {t : Table} {x y : Standing} {left : ℕ} {e : Ends} {shut : Bool} (r : Turns t x y left e shut) where
   -- a run that stops
   pub ran : (closed : Bool) → (closed ≡ false → is_over y.position ≡ false → left ≡ 0) → RunsTo t x y closed
   ran closed why = record {
@@ -46,3 +66,12 @@ is_stopped false b o e h c f = true≢false (sym h ∙ (e ∙ f))
 pub goes_on_lem : (a b o : Bool) → b ≡ o → (a || b) ≡ false → o ≡ false
 goes_on_lem true b o e h = absurd (true≢false h)
 goes_on_lem false b o e h = sym e ∙ h
+
+pub is_open : (a b : Bool) → (a || b) ≡ false → a ≡ false
+is_open true b h = absurd (true≢false h)
+is_open false b h = refl
+
+-- what was to be printed is printed where the output is not closed
+pub was_printed : {E : Type 0} {P : Type 0} (r : Result (Unit {0}) E) (b : Bool) → b ≡ is_ok r → OnOk r P → not b ≡ false → P
+was_printed (Ok u) b e h n = h
+was_printed (Err x) b e h n = absurd (true≢false (rw e at n))

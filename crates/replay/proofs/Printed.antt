@@ -10,6 +10,7 @@ use lib.ListN.{length, take, drop, take-append-drop}
 use lib.Seq.{take-append_seam, take-nil, drop-drop}
 use lib.IntN.{ℤ, pos, negsuc}
 use borrow.Author.Tests.{eqb-true}
+use Rattle.std.specs.Io.KnownBytes.{Appends, IsAtEnd}
 use Rattle.io.specs.Counts.{clamp_len}
 use Rattle.numbers.specs.Lists.{joined, ends, said}
 use Rattle.numbers.proofs.Elements.{ends_append, said_append}
@@ -25,9 +26,10 @@ use Rattle.recording.specs.Run.{run, text_of_all, text_from, end_text, printed}
 use Rattle.recording.specs.Feed.{fed_of}
 use Rattle.recording.specs.ByParts.{Going, at_start, advance, writes}
 use Rattle.recording.proofs.Whole.{by_parts}
-use Rattle.replay.specs.Position.{buffer_size, most_moves, Standing, standing, rest_in, rest_of, text_in, is_end, last_text, came_of, Came, is_done, call_of, called, Turned, is_over, led_to, AllTurned, printed_by, came_in, came_by, first, PrintsTheWhole}
+use Rattle.replay.specs.Position.{buffer_size, most_moves, Standing, standing, rest_in, rest_of, text_in, is_end, last_text, came_of, Came, is_done, call_of, called, Turned, is_over, led_to, AllTurned, printed_by, came_in, came_by, first, PrintsTheWhole, Prints}
 use Rattle.replay.specs.declared.Position.{Position}
 use Rattle.replay.proofs.OnTable.{t_good}
+use Rattle.replay.proofs.OnTurns.{Ends, Turns}
 
 -- ---- lists
 
@@ -222,3 +224,20 @@ prints_the_whole buf w out l each ended =
     ∙ (ap (λ (g : Going). before ++ end_text g.reader.state (length g.reader.rest)) f.same
     ∙ (by_parts table_t w f.happened t_good (subst (λ (g : Going). AtRest g.reader) f.same (f.ends ended))
     ∙ ap (printed table_t w) (sym f.came))))
+
+-- what a run says of the bytes
+pub run_prints :
+    (t : Table) (buf : List ℕ) (w : Lent) (out : List ℕ) (y : Standing) (left : ℕ) (e : Ends) (closed : Bool)
+    → t ≡ table_t → Turns t (standing first buf w out) y left e closed
+    → (y.position.ended ≡ true → is_done y.position.state ≡ false → IsAtEnd e.input')
+    → Prints w y.position closed e.input e.input' e.output e.output'
+run_prints t buf w out y left e closed same r all = record {
+  came = came_by (standing first buf w out) r.made;
+  taken = r.took;
+  all = all;
+  text = λ c ended.
+      subst (Appends e.output e.output')
+      (prints_the_whole buf w out r.made (subst (λ (u : Table). AllTurned u (standing first buf w out) r.made) same r.each)
+      (subst (λ (u : Standing). u.position.ended ≡ true) r.last ended))
+      (r.told c);
+}

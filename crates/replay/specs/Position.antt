@@ -1,6 +1,8 @@
 -- The program, turn by turn; each turn is one thing that happens in the theorem `ByParts`.
 -- Assumes nothing.
 use Rattle.std.specs.Prelude.{ℕ, zero, suc, ◌+◌, ◌-◌, ◌/◌, ◌<◌, ◌≤◌, ◌≡◌, Bool, true, false, cond, ◌||◌, List, [], ◌∷◌, ◌++◌, length, take, drop, ℤ, pos, negsuc, eqb}
+use Rattle.std.specs.Prelude.{Option, Result, Ok, Err}
+use Rattle.std.specs.Io.KnownBytes.{Consumes, Appends, IsAtEnd}
 use Rattle.io.specs.Counts.{clamp_len}
 use Rattle.table.specs.declared.Table.{Table}
 use Rattle.paper.specs.TableT.{table_t}
@@ -65,6 +67,11 @@ abbrev pub is_failure : ℤ → Bool
 is_failure (pos n) = false
 is_failure (negsuc n) = true
 
+-- what `read` answered, of which that is the number; why it failed is not told
+abbrev pub answer_of : ℤ → Result ℕ (Unit {0})
+answer_of (pos n) = Ok n
+answer_of (negsuc n) = Err tt
+
 -- what the end adds, with n bytes kept
 abbrev pub last_text : State → ℕ → Bool → List ℕ
 last_text st n ended = cond ended (end_text st n) []
@@ -85,6 +92,10 @@ arrived_as p n got = record {
   ended = is_end got;
   failed = is_failure got;
 }
+
+-- the bytes that a read brought, behind those that were kept
+abbrev pub brought : Position → List ℕ → Position → List ℕ → List ℕ
+brought p buf q filled = drop (length (rest_in p buf)) (rest_in q filled)
 
 -- from x to y a read answered `got`: what was not used is kept, and what came stands behind it
 pub record Came (x y : Standing) : Type 0 where
@@ -176,3 +187,11 @@ PrintsTheWhole =
     (buf : List ℕ) (w : Lent) (out : List ℕ) (l : List Standing) → let x = standing first buf w out in AllTurned table_t x l
     → (led_to x l).position.ended ≡ true
     → printed_by l ≡ printed table_t w (came_by x l)
+
+-- where the bytes of the input and those of the output are known: the bytes that came were the next of the input, and all of them where the capture is
+-- judged to its end (behind a bad header nothing is judged); what the output holds behind what it held is what is printed of those bytes
+pub record Prints (w : Lent) (p : Position) (closed : Bool) (input input' output output' : Option (List ℕ)) : Type 0 where
+  pub came : List ℕ
+  pub taken : Consumes input input' came
+  pub all : p.ended ≡ true → is_done p.state ≡ false → IsAtEnd input'
+  pub text : closed ≡ false → p.ended ≡ true → Appends output output' (printed table_t w came)

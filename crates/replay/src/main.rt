@@ -1,7 +1,9 @@
 // Judges a capture on standard input under table T and prints a line a record: place, time in ms, verdict, rule and event, or its refusal.
 #![tactic(auto)]
 
-ghost use Rattle.std.specs.Prelude.{◌≡◌, true, ◌+◌, ◌≤◌, ◌<◌, length};
+ghost use Rattle.std.specs.Prelude.{◌≡◌, true, false, ◌+◌, ◌≤◌, ◌<◌, length};
+ghost use Rattle.std.specs.Io.{ReadsAtMost};
+ghost use Rattle.std.specs.Io.KnownBytes.{Consumes, IsAtEnd, ReadConsumes};
 ghost use Rattle.numbers.specs.Lists.{Wrote};
 ghost use Rattle.table.specs.Words.{table_in};
 ghost use Rattle.paper.specs.TableT.{table_t};
@@ -13,15 +15,19 @@ ghost use Rattle.replay.specs.Position.{
   most_moves,
   standing,
   Sound,
+  answer_of,
   last_text,
   arrived_as,
   Came,
+  brought,
   is_done,
   called,
   Turned,
   is_over,
+  came_in,
   first,
   RunsTo,
+  Prints,
 };
 
 use capture::State;
@@ -96,7 +102,10 @@ fn arrived(p: Position, kept: usize, got: isize, buf: &[u8], out: &mut [u8]) -> 
 }
 
 // One read: how many bytes came, 0 at the end of the input, below 0 where it failed.
-fn read_once(from: &mut impl Read, buf: &mut [u8]) -> isize {
+fn read_once<R: Read>(from: &mut R, buf: &mut [u8]) -> isize
+    ensures bound { ReadsAtMost (answer_of result) buf.new }
+    ensures input { ReadConsumes (R.remaining from.old) (R.remaining from.new) (answer_of result) buf.new }
+{
     match from.read(buf) {
         Ok(n) => n as isize,
         Err(_) => -1,
@@ -104,13 +113,15 @@ fn read_once(from: &mut impl Read, buf: &mut [u8]) -> isize {
 }
 
 // Keeps what was not used, and reads behind it.
-fn refill(p: Position, from: &mut impl Read, buf: &mut [u8], out: &mut [u8]) -> Position
+fn refill<R: Read>(p: Position, from: &mut R, buf: &mut [u8], out: &mut [u8]) -> Position
     requires sound { Sound p }
     requires more { p.more ≡ true }
     requires buffer { length buf.old ≡ buffer_size }
     requires room { length out.old ≡ buffer_size }
     ensures sound { Sound result }
     ensures came { (w : Lent) → Came (standing p buf.old w out.old) (standing result buf.new w out.new) }
+    ensures input { Consumes (R.remaining from.old) (R.remaining from.new) (brought p buf.old result buf.new) }
+    ensures all { result.ended ≡ true → IsAtEnd (R.remaining from.new) }
 {
     let at = p.at;
     let end = p.end;
@@ -171,13 +182,13 @@ fn judge_on(
 }
 
 // One turn of a run: a part comes, or a call is made, and what is to be printed of it stands in `out`.
-fn turn(
+fn turn<R: Read>(
     t: &TableWords,
     p: Position,
     head: &mut Head,
     counts: &mut Counts,
     places: &mut Places,
-    from: &mut impl Read,
+    from: &mut R,
     buf: &mut [u8],
     out: &mut [u8],
 ) -> Position
@@ -191,6 +202,10 @@ fn turn(
     ensures room { result.count ≤ length out.new }
     ensures places { result.place ≤ p.place + most_moves }
     ensures records { Begun (table_in t.now) (run result.place (after head counts places)) }
+    ensures input { Consumes (R.remaining from.old) (R.remaining from.new)
+        (came_in (standing p buf.old (before head counts places) out.old)
+        (standing result buf.new (after head counts places) out.new)) }
+    ensures all { result.ended ≡ true → is_done result.state ≡ false → IsAtEnd (R.remaining from.new) }
 {
     if p.more {
         return refill(p, from, buf, out);
@@ -219,22 +234,24 @@ fn is_over(p: Position) -> bool
     p.ended | p.failed
 }
 
-// Turn after turn from the start to the end (`PrintsTheWhole`). That what each left is printed, and that `closed` is what printing it says, is left to reading.
-fn replay(
+// Turn after turn from the start to the end, and what each left is printed (`PrintsTheWhole`).
+fn replay<R: Read, W: Write>(
     t: &TableWords,
     head: &mut Head,
     counts: &mut Counts,
     places: &mut Places,
-    from: &mut impl Read,
-    to: &mut impl Write,
+    from: &mut R,
+    to: &mut W,
     buf: &mut [u8],
     out: &mut [u8],
 ) -> Ran
     requires table { table_in t.now ≡ table_t }
     requires buffer { length buf.old ≡ buffer_size }
     requires room { length out.old ≡ buffer_size }
-    ensures { RunsTo table_t (standing first buf.old (before head counts places) out.old)
+    ensures runs { RunsTo table_t (standing first buf.old (before head counts places) out.old)
         (standing result.position buf.new (after head counts places) out.new) result.closed }
+    ensures prints { Prints (before head counts places) result.position result.closed
+        (R.remaining from.old) (R.remaining from.new) (W.contents to.old) (W.contents to.new) }
 {
     let mut p = start();
     let mut turns = TURNS;
