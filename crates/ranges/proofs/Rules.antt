@@ -4,7 +4,7 @@ use mathlib.Core.Path.{◌≡◌, refl}
 use mathlib.Core.List.{List, [], ◌∷◌, ◌++◌}
 use mathlib.Core.Bool.{Bool, true, cond, ◌&&◌, ◌||◌, beq, false≢true}
 use Rattle.numbers.proofs.Tests.{cond_skips}
-use Rattle.table.specs.Settings.{Setting, unset, set, within, is_unset, paired, of8, of16}
+use Rattle.table.specs.Settings.{Setting, unset, set, within, is_unset, paired}
 use Rattle.ranges.specs.declared.setting_number.SettingNumber.{SettingNumber}
 use Rattle.ranges.specs.Numbers as setting
 use Rattle.ranges.specs.Ranges.{
@@ -103,8 +103,8 @@ module _ (fresh : Bool) (r : Rule) where
   past_someip e =
       let s = r.someip in
       block_goes (rule_tests fresh r) (someip_tests s) (from_rate r) refl e
-      (cond_skips _ (any_good (of16 s.service))
-      (cond_skips _ (any_good (of16 s.method))
-      (cond_skips _ (any_good (of8 s.version))
-      (cond_skips _ (any_good (of8 s.kind)) (cond_skips _ (any_good (of8 s.code)) refl)))))
+      (cond_skips _ (any_good s.service)
+      (cond_skips _ (any_good s.method)
+      (cond_skips _ (any_good s.version)
+      (cond_skips _ (any_good s.kind) (cond_skips _ (any_good s.code) refl)))))
       refl

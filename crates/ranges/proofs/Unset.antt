@@ -13,9 +13,7 @@ use Rattle.numbers.specs.Lists.{every}
 use Rattle.numbers.proofs.Lists.{every_at}
 use Rattle.numbers.proofs.Tests.{cond_skips}
 use Rattle.table.specs.Marks.{ipv6_unset}
-use Rattle.table.specs.Settings.{of8, of_prefix6}
 use Rattle.table.specs.Table.{marked}
-use Rattle.table.specs.declared.Ipv6Settings.{Ipv6Settings}
 use Rattle.ranges.proofs.Rules.{unset_good}
 use Rattle.ranges.specs.Ranges.{any, prefix6_good, link_tests, ip_tests, ipv6_tests, transport_tests, rate_tests, tracking_tests, fault_in}
 use Rattle.ranges.specs.Numbers.{none}
@@ -42,6 +40,8 @@ use Rattle.table.specs.Words.{
   rate_in,
   tracking_in,
 }
+use Rattle.addresses.specs.declared.Wide.{Wide}
+use Rattle.table.specs.declared.IpSettings.{IpSettings}
 
 -- a number whose lowest byte is zero has no bit there
 no_bit : (n k : ℕ) → n % 2 ^ 8 ≡ 0 → k < 8 → n / 2 ^ k % 2 ≡ 0
@@ -85,10 +85,10 @@ module _ (w : List ℕ) where
         rw (none_set_lem tracking_word 0 e f (omega arith), none_set_lem tracking_word 1 e f (omega arith), none_set_lem tracking_word 2 e f (omega arith), none_set_lem tracking_word 3 e f (omega arith))
 
 -- no IPv6 setting is set, and none is at fault
-pub ipv6_unset_lem : (s : Ipv6Settings) (alone : Bool) {b : Bool} → b ≡ every (ipv6_unset s) → b ≡ true → none ≡ fault_in (ipv6_tests s alone)
+pub ipv6_unset_lem : (s : IpSettings Wide) (alone : Bool) {b : Bool} → b ≡ every (ipv6_unset s) → b ≡ true → none ≡ fault_in (ipv6_tests s alone)
 ipv6_unset_lem s alone e f =
     let h = sym e ∙ f in
     let ts = ipv6_unset s in
-    cond_skips _ (unset_good prefix6_good (of_prefix6 s.source) alone (every_at ts 0 h))
-    (cond_skips _ (unset_good prefix6_good (of_prefix6 s.destination) alone (every_at ts 1 h))
-    (cond_skips _ (unset_good any (of8 s.protocol) alone (every_at ts 2 h)) refl))
+    cond_skips _ (unset_good prefix6_good s.source alone (every_at ts 0 h))
+    (cond_skips _ (unset_good prefix6_good s.destination alone (every_at ts 1 h))
+    (cond_skips _ (unset_good any s.protocol alone (every_at ts 2 h)) refl))
