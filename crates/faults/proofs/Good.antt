@@ -10,7 +10,8 @@ use lib.ListN.{get_or}
 use Rattle.numbers.specs.Lists.{first, all_below}
 use Rattle.numbers.proofs.Lists.{and_both, below_at, first_before}
 use Rattle.numbers.proofs.Elements.{every_of_any}
-use Rattle.table.specs.Settings.{Setting, unset, set}
+use Rattle.table.specs.declared.Setting.{Setting}
+use Rattle.table.specs.declared.Setting.TheVariants.{Unset as unset, Set as set}
 use Rattle.table.specs.Table.{most_rules, most_states, is_allow, is_tcp, tracking_from, tracking_of, rule_at, state_at, marked}
 use Rattle.ranges.specs.Numbers as setting
 use Rattle.ranges.specs.Ranges.{may_track, from_to, up_to, known_action, all_set, part_good, Test, test, test_good, rule_tests, all_good}

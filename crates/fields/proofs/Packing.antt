@@ -78,7 +78,8 @@ use Rattle.table.specs.declared.Kind.{Kind}
 use Rattle.table.specs.declared.Kind.TheVariants as kind
 use Rattle.table.specs.declared.Rule.{Rule}
 use Rattle.addresses.specs.declared.Wide.{Wide}
-use Rattle.table.specs.Settings.{Setting, unset, set}
+use Rattle.table.specs.declared.Setting.{Setting}
+use Rattle.table.specs.declared.Setting.TheVariants.{Unset as unset, Set as set}
 use Rattle.table.specs.declared.Range.{Range}
 use Rattle.table.specs.declared.Prefix.{Prefix}
 

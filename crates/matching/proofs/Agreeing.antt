@@ -28,13 +28,7 @@ use Rattle.table.specs.declared.Kind.{Kind}
 use Rattle.table.specs.declared.Kind.TheVariants as kind
 use Rattle.table.specs.declared.TransportSettings.{TransportSettings}
 use Rattle.table.specs.declared.SomeipSettings.{SomeipSettings}
-use Rattle.table.specs.Settings.{
-  agrees,
-  in_range,
-  in_prefix,
-  in_prefix6,
-  same_kind,
-}
+use Rattle.table.specs.Settings.{agrees, in_range, in_prefix, in_prefix6, same_kind}
 use Rattle.table.proofs.SettingLaws.{unset_agrees}
 use Rattle.table.specs.Marks.{ipv4_unset, ipv6_unset, ip_unset, transport_unset, someip_unset}
 use Rattle.matching.specs.Matching.{ipv4_tests, number_agrees, ipv6_tests, ip_matches, ports_agree, transport_matches, message_agrees, messages_agree, someip_matches}

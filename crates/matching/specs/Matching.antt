@@ -26,14 +26,7 @@ use Rattle.table.specs.declared.SomeipSettings.{SomeipSettings}
 use Rattle.table.specs.declared.Rule.{Rule}
 use Rattle.table.specs.Table.{socket_number}
 use Rattle.table.specs.Marks.{ipv4_unset, ipv6_unset, ip_unset, transport_unset, someip_unset}
-use Rattle.table.specs.Settings.{
-  is_unset,
-  agrees,
-  in_range,
-  in_prefix,
-  in_prefix6,
-  same_kind,
-}
+use Rattle.table.specs.Settings.{is_unset, agrees, in_range, in_prefix, in_prefix6, same_kind}
 use Rattle.addresses.specs.declared.Wide.{Wide}
 use Rattle.table.specs.declared.IpSettings.{IpSettings}
 

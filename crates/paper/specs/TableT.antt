@@ -8,7 +8,8 @@ use Rattle.table.specs.declared.LinkSettings.{LinkSettings}
 use Rattle.table.specs.declared.Rule.{Rule}
 use Rattle.table.specs.declared.Table.{Table}
 use Rattle.table.specs.Table.{no_rule, no_state}
-use Rattle.table.specs.Settings.{Setting, unset, set}
+use Rattle.table.specs.declared.Setting.{Setting}
+use Rattle.table.specs.declared.Setting.TheVariants.{Unset as unset, Set as set}
 use Rattle.table.specs.declared.Range.{Range}
 
 -- an ether type and no other link setting; a range of ports

@@ -3,17 +3,14 @@
 use mathlib.Core.Path.{◌≡◌, refl, sym, ap}
 use Prim.Native.Nat.{ℕ}
 use mathlib.Core.List.{List}
-use mathlib.Core.Bool.{Bool, true, false, ◌&&◌, not, true≢false}
-use lib.Dec.{leb}
-use Rattle.numbers.proofs.Tests.{cond_stops, cond_goes}
+use mathlib.Core.Bool.{Bool, true, false, ◌&&◌, true≢false}
 use Rattle.table.specs.Table.{tracking_from, tracking_of}
 use Rattle.table.specs.Words.{tracking_in, rule_in}
 use Rattle.table.specs.declared.Room.{Room}
 use Rattle.table.specs.declared.TrackingSettings.{TrackingSettings}
-use Rattle.ranges.specs.declared.setting_number.SettingNumber.{SettingNumber}
-use Rattle.ranges.specs.Numbers as setting
 use Rattle.ranges.specs.Ranges.{all_set, all_of, part_tests, tracking_tests, fault_in}
-use Rattle.table.specs.Settings.{Setting, unset, set}
+use Rattle.table.specs.declared.Setting.{Setting}
+use Rattle.table.specs.declared.Setting.TheVariants.{Unset as unset, Set as set}
 use Rattle.std.specs.Prelude.{Option}
 use Rattle.std.specs.Prelude.{Some, None}
 
@@ -47,41 +44,6 @@ by_unset (set p) (set l) (set a) unset e = refl
 by_unset (set p) (set l) unset b e = refl
 by_unset (set p) unset a b e = refl
 by_unset unset l a b e = refl
-
--- test by test, up to the first that fails
-module _ (m : Room) (may : Bool) where
-  abbrev t19 : Bool
-  t19 = (leb 1 m.places && leb m.places 8) && may
-
-  abbrev t20 : Bool
-  t20 = (leb 1 m.limit && leb m.limit 600000) && may
-
-  abbrev t25 : Bool
-  t25 = leb m.number0 m.places && may
-
-  abbrev t26 : Bool
-  t26 = leb m.number1 m.places && may
-
-  abbrev is : SettingNumber → Type 0
-  is n = n ≡ fault_in (part_tests (all_of m) may)
-
-  pub fault_19 : not t19 ≡ true → is setting.places
-  fault_19 a = cond_stops {r = t19} _ refl a
-
-  module _ (a : not t19 ≡ false) where
-    pub fault_20 : not t20 ≡ true → is setting.idle_limit
-    fault_20 b = cond_goes {r = t19} _ refl a (cond_stops {r = t20} _ refl b)
-
-    module _ (b : not t20 ≡ false) where
-      pub fault_25 : not t25 ≡ true → is setting.number0
-      fault_25 c = cond_goes {r = t19} _ refl a (cond_goes {r = t20} _ refl b (cond_stops {r = t25} _ refl c))
-
-      module _ (c : not t25 ≡ false) where
-        pub fault_26 : not t26 ≡ true → is setting.number1
-        fault_26 d = cond_goes {r = t19} _ refl a (cond_goes {r = t20} _ refl b (cond_goes {r = t25} _ refl c (cond_stops {r = t26} _ refl d)))
-
-        pub fault_none : not t26 ≡ false → is setting.none
-        fault_none d = cond_goes {r = t19} _ refl a (cond_goes {r = t20} _ refl b (cond_goes {r = t25} _ refl c (cond_goes {r = t26} _ refl d refl)))
 
 -- a row's tracking tells its fault
 module _ (w : List ℕ) (may : Bool) where

@@ -15,7 +15,7 @@ use Rattle.table.specs.Marks.{ipv4_unset, ipv6_unset, someip_unset}
 use Rattle.table.specs.Settings.{is_unset}
 use Rattle.table.specs.Table.{marked}
 use Rattle.table.specs.Words.{ip_word, someip_word, word, is_set, setting8_in, setting16_in, prefix_in, prefix6_in, ipv4_in, ipv6_in, someip_in}
-use Rattle.table.specs.Settings.{unset, set}
+use Rattle.table.specs.declared.Setting.TheVariants.{Unset as unset, Set as set}
 
 -- ---- one setting
 

@@ -8,7 +8,7 @@ use Rattle.table.specs.Table.{marked, tracking_from, tracking_of}
 use Rattle.table.specs.Words.{tracking_word, word, bits, setting8_in, setting32_in, rule_in}
 use Rattle.table.specs.declared.Room.{Room}
 use Rattle.table.proofs.MarkLaws.{four_marked, marked_four}
-use Rattle.table.specs.Settings.{unset, set}
+use Rattle.table.specs.declared.Setting.TheVariants.{Unset as unset, Set as set}
 use Rattle.std.specs.Prelude.{Some, None}
 
 module _ (w : List ℕ) where
