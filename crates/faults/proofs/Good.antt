@@ -1,50 +1,63 @@
 -- What a good table gives its readers.
 -- Assumes nothing.
 use Prim.Native.Nat.{ℕ, ◌<◌, ◌≤◌}
-use mathlib.Core.Path.{◌≡◌, refl, sym, ◌∙◌}
-use mathlib.Core.Bool.{Bool, true, false, cond, ◌&&◌, false≢true}
+use mathlib.Core.Path.{◌≡◌, refl, sym, ap, ◌∙◌}
+use mathlib.Core.Bool.{Bool, true, false, cond, not, ◌&&◌, false≢true}
 use native.Mathlib.Omega.{arith}
 use borrow.Author.Tests.{ltb-true, ltb-false, leb-true, not-false}
 use lib.Dec.{ltb, leb}
 use lib.ListN.{get_or}
 use Rattle.numbers.specs.Lists.{first, all_below}
-use Rattle.numbers.proofs.Lists.{and_both, below_at, first_before}
+use Rattle.numbers.proofs.Lists.{and_both, below_at, first_holds, first_before}
 use Rattle.numbers.proofs.Elements.{every_of_any}
 use Rattle.table.specs.declared.Setting.{Setting}
 use Rattle.table.specs.declared.Setting.TheVariants.{Unset as unset, Set as set}
 use Rattle.table.specs.Table.{most_rules, most_states, is_allow, is_tcp, tracking_from, tracking_of, rule_at, state_at, marked}
-use Rattle.ranges.specs.Numbers as setting
-use Rattle.ranges.specs.Ranges.{may_track, from_to, up_to, known_action, all_set, part_good, Test, test, test_good, rule_tests, all_good}
-use Rattle.faults.specs.Faults.{fresh_id, tests_at, faulty, marks_good, state_good, states_good, rule_fault, table_fault, fault_of}
+use Rattle.ranges.specs.declared.setting_number.SettingNumber.TheVariants as setting
+use Rattle.ranges.specs.Ranges.{may_track, from_to, up_to, known_action, all_set, part_good, Test, test, test_good, rule_tests, all_good, fault_in}
+use Rattle.faults.specs.Faults.{fresh_id, tests_at, faulty, in_rule, marks_good, state_good, states_good, rule_fault, table_fault, fault_of}
 use Rattle.table.specs.declared.Rule.{Rule}
 use Rattle.table.specs.declared.Room.{Room}
 use Rattle.table.specs.declared.Table.{Table}
 use Rattle.faults.specs.declared.AtFault.{AtFault}
-use Rattle.faults.specs.declared.Fault.TheVariants as fault
+use Rattle.std.specs.Prelude.{Result, Ok, Err, ⊤}
+use Rattle.ranges.specs.declared.setting_number.SettingNumber.{SettingNumber}
+use Rattle.ranges.proofs.Tests.{none_fails}
 use Rattle.ranges.proofs.Rules.{from_tracking, tracking_good}
 use Rattle.table.proofs.Shifts.{none_beyond}
 use Rattle.std.specs.Prelude.{Some, None}
 
 -- the count, the rules and the states are good
 no_fault :
-    (a b c : Bool) (x y : AtFault) → cond a (fault.At x) (cond b (fault.At y) (cond c fault.Good (fault.At x))) ≡ fault.Good
+    (a b c : Bool) (x : AtFault) (r : Result ⊤ AtFault) → (b ≡ true → r ≡ Ok tt → ⊥)
+    → cond a (Err x) (cond b r (cond c (Ok tt) (Err x))) ≡ Ok tt
     → (a ≡ false) × (b ≡ false) × (c ≡ true)
-no_fault true b c x y e = let z : ◌≡◌ {A = ℕ} 0 1 = cc in absurd (omega arith)
-no_fault false true c x y e = let z : ◌≡◌ {A = ℕ} 0 1 = cc in absurd (omega arith)
-no_fault false false true x y e = (refl, refl, refl)
-no_fault false false false x y e = let z : ◌≡◌ {A = ℕ} 0 1 = cc in absurd (omega arith)
+no_fault true b c x r h e = let z : ◌≡◌ {A = ℕ} 0 1 = cc in absurd (omega arith)
+no_fault false true c x r h e = absurd (h refl e)
+no_fault false false true x r h e = (refl, refl, refl)
+no_fault false false false x r h e = let z : ◌≡◌ {A = ℕ} 0 1 = cc in absurd (omega arith)
+
+-- no fault in a rule: none of its tests fails
+no_setting : (i : ℕ) (r : Result ⊤ SettingNumber) → in_rule i r ≡ Ok tt → r ≡ Ok tt
+no_setting i (Ok x) e = refl
+no_setting i (Err n) e = let z : ◌≡◌ {A = ℕ} 0 1 = cc in absurd (omega arith)
 
 -- what stands beyond the last test
 abbrev no_test : Test
-no_test = test setting.none true
+no_test = test setting.Id true
 
-module _ (t : Table) (whole : fault_of t ≡ fault.Good) where
+module _ (t : Table) (whole : fault_of t ≡ Ok tt) where
   parts :
       (ltb most_rules t.rulecount ≡ false)
       × (ltb (first (faulty t) t.rulecount) t.rulecount ≡ false)
       × (states_good t.rulecount t.statecount t.states ≡ true)
-  unfolding fault_of
-  parts = no_fault (ltb most_rules t.rulecount) (ltb (first (faulty t) t.rulecount) t.rulecount) (states_good t.rulecount t.statecount t.states) table_fault (rule_fault t (first (faulty t) t.rulecount)) whole
+  unfolding fault_of faulty
+  parts =
+      let i = first (faulty t) t.rulecount in
+      no_fault (ltb most_rules t.rulecount) (ltb i t.rulecount) (states_good t.rulecount t.statecount t.states) table_fault (rule_fault t i)
+      (λ b e. let good : faulty t i ≡ false = ap not (none_fails (tests_at t i) (no_setting i (fault_in (tests_at t i)) e)) in
+      false≢true (sym good ∙ first_holds (faulty t) t.rulecount (ltb-true i t.rulecount b)))
+      whole
 
   pub good_count : t.rulecount ≤ most_rules
   good_count = ltb-false most_rules t.rulecount parts.0
