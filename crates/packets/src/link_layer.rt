@@ -29,6 +29,7 @@ const TOP_3: u16 = 8192;
 
 const LOW_12: u16 = 4096;
 
+#[tactic(auto, unfolding(crate::specs::Link::tagged))]
 pub fn is_tagged(s: &[u8]) -> bool
     requires { link_bytes ≤ length s.now }
     ensures { result ≡ tagged s.now }
@@ -36,6 +37,7 @@ pub fn is_tagged(s: &[u8]) -> bool
     read16(s, ETHER_AT) == TAG_TYPE
 }
 
+#[tactic(auto, unfolding(crate::specs::Link::tag_of))]
 fn read_tag(s: &[u8]) -> Tag
     requires { tagged_bytes ≤ length s.now }
     ensures { result ≡ tag_of s.now }
@@ -47,6 +49,7 @@ fn read_tag(s: &[u8]) -> Tag
     }
 }
 
+#[tactic(auto, unfolding(crate::specs::Link::link_of))]
 pub fn read_link(s: &[u8]) -> Link
     requires header { link_bytes ≤ length s.now }
     requires tag { tagged s.now ≡ true → tagged_bytes ≤ length s.now }
