@@ -5,7 +5,6 @@ use Rattle.packets.specs.Link.{low12}
 use Rattle.packets.specs.Ip.{ipv4_bytes}
 use Rattle.packets.specs.Ipv6.{ipv6_bytes}
 use Rattle.packets.specs.declared.Tag.{Tag}
-use Rattle.packets.specs.declared.Tag.TheVariants as tag
 use Rattle.packets.specs.declared.Packet.{Packet}
 use Rattle.packets.specs.declared.Upper.{Upper}
 use Rattle.packets.specs.declared.Packet6.{Packet6}
@@ -13,9 +12,9 @@ use Rattle.packets.specs.declared.Ip.{Ip}
 use Rattle.packets.specs.declared.Ip.TheVariants as ip
 
 -- a VLAN id has 12 bits
-abbrev pub TagInside : Tag → Type 0
-TagInside tag.Untagged = Unit {0}
-TagInside (tag.Tagged priority vlan) = vlan < low12
+abbrev pub TagInside : Option Tag → Type 0
+TagInside None = Unit {0}
+TagInside (Some t) = t.vlan < low12
 
 -- a header of at least 20 bytes, the payload straight behind it
 pub record PacketInside (s : List ℕ) (p : Packet) : Type 0 where

@@ -8,17 +8,17 @@ pub mod link_layer;
 use addresses::Wide;
 
 #[derive(Clone, Copy)]
-pub enum Tag {
-    Untagged,
-    Tagged { priority: u8, vlan: u16 },
+pub struct Tag {
+    pub priority: u8,
+    pub vlan: u16,
 }
 
-// The header lies at 0, the rest starts at hlen.
+// The header lies at 0, the rest starts at hlen. An untagged frame has no tag.
 #[derive(Clone, Copy)]
 pub struct Link {
     pub destination: u64,
     pub source: u64,
-    pub tag: Tag,
+    pub tag: Option<Tag>,
     pub ether: u16,
     pub hlen: usize,
 }

@@ -43,7 +43,7 @@ fn read_tag(s: &[u8]) -> Tag
     ensures { result ≡ tag_of s.now }
 {
     let x = read16(s, TAG_AT);
-    Tag::Tagged {
+    Tag {
         priority: (x / TOP_3) as u8,
         vlan: x % LOW_12,
     }
@@ -61,7 +61,7 @@ pub fn read_link(s: &[u8]) -> Link
         Link {
             destination,
             source,
-            tag: read_tag(s),
+            tag: Some(read_tag(s)),
             ether: read16(s, TAGGED_ETHER_AT),
             hlen: TAGGED_BYTES,
         }
@@ -69,7 +69,7 @@ pub fn read_link(s: &[u8]) -> Link
         Link {
             destination,
             source,
-            tag: Tag::Untagged,
+            tag: None,
             ether: read16(s, ETHER_AT),
             hlen: LINK_BYTES,
         }
