@@ -9,7 +9,7 @@ use mathlib.Core.List.{List, [], map}
 use lib.ListN.{length, get_or, set, length-map, get_or-map}
 use borrow.Author.Tests.{lt-ltb, le-ltb, ltb-true, eq-eqb, ne_eqb}
 use Rattle.numbers.specs.Lists.{every_of, firsts, All}
-use Rattle.numbers.proofs.Lists.{firsts_next, firsts_map}
+use Rattle.numbers.proofs.Lists.{firsts_next}
 use Rattle.table.specs.declared.Tracking.{Tracking}
 use Rattle.table.specs.declared.Tracking.TheVariants as tracking
 use Rattle.places.specs.Places.{Place, free, is_free, place_of, places_of, Fits, ShapedPlace}
@@ -112,13 +112,9 @@ module _ (limit elapsed : ℕ) (w : List ℕ) where
   pub place_old : (get_or w 0 0 % 4 ≡ 0 → ⊥) → limit ≤ (place_of w).age + elapsed → free ≡ aged_place limit elapsed (place_of w)
   place_old h m = sym (aged_gone limit elapsed (place_of w) (ne_eqb (get_or w 0 0 % 4) 0 h) m)
 
--- one turn of the loop, and its end
+-- one turn of the loop
 pub places_turn : (f : Place → Place) (ps₀ ps : List (List ℕ)) (j : ℕ) (w : List ℕ) → places_of ps ≡ firsts (λ i. f) j (places_of ps₀)
     → place_of w ≡ f (place_of (get_or ps j [])) → places_of (set ps j w) ≡ firsts (λ i. f) (j + 1) (places_of ps₀)
 places_turn f ps₀ ps j w e h =
     map_set place_of ps j w
     ∙ firsts_next (λ i. f) free j (places_of ps₀) (places_of ps) (place_of w) e (h ∙ ap f (sym (place_at_lem ps j)))
-
-pub places_turned : (f : Place → Place) (ps₀ ps : List (List ℕ)) (j : ℕ) → j ≡ 8 → length ps₀ ≡ 8 → places_of ps ≡ firsts (λ i. f) j (places_of ps₀)
-    → places_of ps ≡ map f (places_of ps₀)
-places_turned f ps₀ ps j n h e = e ∙ firsts_map f j (places_of ps₀) (omega (arith, length-map ps₀ place_of))
