@@ -4,8 +4,8 @@ use Prim.Native.Nat.{ℕ, ◌+◌, ◌*◌, ◌/◌, ◌%◌, ◌^◌, ◌<◌, 
 use mathlib.Core.Path.{◌≡◌, refl, sym, ap, ◌∙◌}
 use mathlib.Core.Bool.{Bool, true, false, not, ◌&&◌, ◌||◌, false≢true}
 use mathlib.Core.List.{List, [], ◌∷◌}
-use lib.ListN.{length, get_or, drop, get_or-eq_default}
-use lib.Seq.{get_or-drop}
+use lib.ListN.{length, get_or, drop, take, get_or-eq_default}
+use lib.Seq.{get_or-drop, get_or-take}
 use lib.Bits.{bit_or, or_add_and, and_le_l, and_le_r}
 use lib.Dec.{ltb, eqb}
 use native.Mathlib.Omega.{arith}
@@ -192,13 +192,14 @@ module _ (ws : List (List ℕ)) (j : ℕ) where
       (below_all (λ i. not (repeats (places_of ws) j i)) j
       (λ i m. ap (λ (b : Bool). not (not b && holds (at (places_of ws) j).quad (at (places_of ws) i))) (ap is_free (place_at_lem ws j) ∙ eq-eqb _ _ z)))
 
-  pub repeats_is : (i : ℕ) (q : Quad) (b : Bool) → (get_or (get_or ws j []) 0 0 % 4 ≡ 0 → ⊥) → q ≡ (place_of (get_or ws j [])).quad
-      → holds q (place_of (get_or ws i [])) ≡ b → not (repeats (places_of ws) j i) ≡ not b
-  repeats_is i q b z e h =
+  pub repeats_is : (i : ℕ) (q : Quad) (b : Bool) → i < j → (get_or (get_or ws j []) 0 0 % 4 ≡ 0 → ⊥) → q ≡ (place_of (get_or ws j [])).quad
+      → holds q (place_of (get_or (take j ws) i [])) ≡ b → not (repeats (places_of ws) j i) ≡ not b
+  repeats_is i q b l z e h =
       ap (λ (p : Place). not (not (is_free p) && holds p.quad (at (places_of ws) i))) (place_at_lem ws j)
       ∙ ap (λ (p : Place). not (not (is_free (place_of (get_or ws j []))) && holds (place_of (get_or ws j [])).quad p)) (place_at_lem ws i)
       ∙ ap (λ (f : Bool). not (not f && holds (place_of (get_or ws j [])).quad (place_of (get_or ws i [])))) (ne_eqb (get_or (get_or ws j []) 0 0 % 4) 0 z)
       ∙ ap (λ (x : Quad). not (holds x (place_of (get_or ws i [])))) (sym e)
+      ∙ ap (λ (w : List ℕ). not (holds q (place_of w))) (sym (get_or-take j ws i [] l))
       ∙ ap not h
 
 -- ---- the places of a rule

@@ -1,15 +1,17 @@
 -- Where no two stamps are alike, no conversation stands twice.
 -- Assumes nothing.
-use Prim.Native.Nat.{ℕ, ◌+◌, ◌%◌, ◌<◌}
+use Prim.Native.Nat.{ℕ, ◌+◌, ◌%◌, ◌<◌, ◌≤◌}
 use mathlib.Core.Path.{◌≡◌, sym, ap, ◌∙◌}
-use mathlib.Core.Bool.{Bool, true, cond, not, false≢true}
+use mathlib.Core.Bool.{Bool, true, false, cond, not, false≢true}
 use mathlib.Core.List.{List, []}
-use lib.ListN.{length, get_or, set}
+use lib.ListN.{length, get_or, set, take}
 use lib.Seq.{get_or-set_same, get_or-set_other}
 use lib.Dec.{eqb}
 use native.Mathlib.Omega.{arith}
+use Rattle.std.specs.List.{IsAnyAnswer}
+use Rattle.std.proofs.lemmas.List.{get_or-take, length-take-le}
 use borrow.Author.Tests.{eq-eqb, ne_eqb, eqb-true, eqb-false, not-true}
-use Rattle.numbers.proofs.Lists.{and_both, below_at, below_all}
+use Rattle.numbers.proofs.Lists.{and_both, below_at, below_all, below_fails}
 use Rattle.places.specs.Places.{Place, free, is_free, place_of, places_of, holds}
 use Rattle.places.specs.Good.{repeats, alone, once}
 use Rattle.goodness.specs.Stamps.{stamp_of, place_stamp, Stamped, new_at, distinct}
@@ -73,3 +75,15 @@ module _ (ps : List Place) (m : List ℕ) (told : Stamped ps m) where
       no j i l h e =
           let t = below_at (λ i. not (eqb (get_or m i 0) (get_or m j 0))) j i (below_at (new_at m) 8 j d h) l in
           false≢true (sym (not-true (eqb (get_or m i 0) (get_or m j 0)) t) ∙ eq-eqb (get_or m i 0) (get_or m j 0) (alike j i l h e))
+
+-- ---- what the code's `contains` tells: no stamp below j is that at j
+
+pub new_is : (m : List ℕ) (j : ℕ) (b : Bool) → j ≤ length m → IsAnyAnswer (λ y t. eqb y (get_or m j 0) ≡ t) (take j m) b → not b ≡ new_at m j
+new_is m j true n h =
+    let l : h.0 < j = omega (arith, h.1, length-take-le j m n) in
+    sym (below_fails _ j h.0 l (ap (λ (y : ℕ). not (eqb y (get_or m j 0))) (sym (get_or-take j m h.0 0 l)) ∙ ap not (h.2 0)))
+new_is m j false n h =
+    sym
+    (below_all _ j
+    (λ i l.
+    ap (λ (y : ℕ). not (eqb y (get_or m j 0))) (sym (get_or-take j m i 0 l)) ∙ ap not (h i 0 (omega arith) (omega (arith, length-take-le j m n)))))
