@@ -1,52 +1,26 @@
 -- Where no two stamps are alike, no conversation stands twice.
 -- Assumes nothing.
-use Prim.Native.Nat.{ℕ, ◌+◌, ◌%◌, ◌<◌, ◌≤◌}
+use Prim.Native.Nat.{ℕ, ◌<◌, ◌≤◌}
 use mathlib.Core.Path.{◌≡◌, sym, ap, ◌∙◌}
 use mathlib.Core.Bool.{Bool, true, false, cond, not, false≢true}
-use mathlib.Core.List.{List, []}
-use lib.ListN.{length, get_or, set, take}
-use lib.Seq.{get_or-set_same, get_or-set_other}
+use mathlib.Core.List.{List}
+use lib.ListN.{length, get_or, take}
 use lib.Dec.{eqb}
 use native.Mathlib.Omega.{arith}
 use Rattle.std.specs.List.{IsAnyAnswer}
 use Rattle.std.proofs.lemmas.List.{get_or-take, length-take-le}
-use borrow.Author.Tests.{eq-eqb, ne_eqb, eqb-true, eqb-false, not-true}
+use borrow.Author.Tests.{eq-eqb, not-true}
 use Rattle.numbers.proofs.Lists.{and_both, below_at, below_all, below_fails}
-use Rattle.places.specs.Places.{Place, free, is_free, place_of, places_of, holds}
+use Rattle.places.specs.Places.{Place, free, is_free, places_of, holds}
 use Rattle.places.specs.Good.{repeats, alone, once}
 use Rattle.goodness.specs.Stamps.{stamp_of, place_stamp, Stamped, new_at, distinct}
 use Rattle.numbers.proofs.Tests.{by_test}
-use Rattle.places.proofs.PlaceLaws.{place_at_lem}
 use Rattle.places.proofs.HoldLaws.{holds_is}
-
--- ---- one place
-
-module _ (j : ℕ) (w : List ℕ) where
-  pub stamp_free : get_or w 0 0 % 4 ≡ 0 → j ≡ place_stamp j (place_of w)
-  stamp_free z = rw (eq-eqb (get_or w 0 0 % 4) 0 z)
-
-  pub stamp_held : (r : ℕ) → (get_or w 0 0 % 4 ≡ 0 → ⊥) → r ≡ stamp_of (place_of w).quad → r ≡ place_stamp j (place_of w)
-  stamp_held r z e = rw (ne_eqb (get_or w 0 0 % 4) 0 z) e
 
 -- ---- the loop: the stamps below j are made
 
 abbrev pub StampedTo : List (List ℕ) → List ℕ → ℕ → Type 0
 StampedTo ws m j = (k : ℕ) → k < j → get_or m k 0 ≡ place_stamp k (get_or (places_of ws) k free)
-
-pub stamped_next :
-    (ws : List (List ℕ)) (m : List ℕ) (j x : ℕ) → j < length m → StampedTo ws m j → x ≡ place_stamp j (place_of (get_or ws j []))
-    → StampedTo ws (set m j x) (j + 1)
-stamped_next ws m j x l so e k h =
-    by_test (eqb k j)
-    (λ q. here (eqb-true k j q))
-    (λ q. get_or-set_other m j k x 0 (eqb-false k j q) ∙ so k (omega (arith, eqb-false k j q)))
-  where
-    own : get_or (set m j x) j 0 ≡ place_stamp j (get_or (places_of ws) j free)
-    own = get_or-set_same m j x 0 l ∙ e ∙ ap (place_stamp j) (sym (place_at_lem ws j))
-
-    here : k ≡ j → get_or (set m j x) k 0 ≡ place_stamp k (get_or (places_of ws) k free)
-    here q =
-        ap (λ (i : ℕ). get_or (set m j x) i 0) q ∙ own ∙ ap (λ (i : ℕ). place_stamp i (get_or (places_of ws) i free)) (sym q)
 
 -- ---- all places
 
