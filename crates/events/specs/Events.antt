@@ -14,7 +14,6 @@ use Rattle.payloads.specs.Someip.{someip_bytes, messages_of}
 use Rattle.layers.specs.Seen.{Seen}
 use Rattle.table.specs.declared.Rule.{Rule}
 use Rattle.table.specs.Marks.{ipv6_unset}
-use Rattle.table.specs.Settings.{of_kind}
 use Rattle.table.specs.Table.{is_tcp}
 use Rattle.events.specs.declared.Event.{Event}
 use Rattle.events.specs.declared.Event.TheVariants as event
@@ -133,4 +132,4 @@ unfoldable pub mismatch_of : Rule → ℕ → Event
 mismatch_of r layer =
     cond (eqb layer 0) event.LinkMismatch
     (cond (eqb layer 1) (cond (every (ipv6_unset r.ipv6)) event.Ipv4Mismatch event.Ipv6Mismatch)
-    (cond (eqb layer 2) (cond (is_tcp (of_kind r.transport.kind)) event.TcpMismatch event.UdpMismatch) event.SomeipMismatch))
+    (cond (eqb layer 2) (cond (is_tcp r.transport.kind) event.TcpMismatch event.UdpMismatch) event.SomeipMismatch))

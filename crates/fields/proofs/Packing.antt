@@ -11,7 +11,7 @@ use lib.Dec.{eqb, ltb, leb}
 use lib.ListN.{length, get_or}
 use lib.Pow.{high, low, shr-shr, pow-add}
 use Rattle.numbers.proofs.Lists.{and_both}
-use Rattle.table.specs.Settings.{of8, of16, of32, of64, of_kind, of_range, of_prefix, of_prefix6, is_unset}
+use Rattle.table.specs.Settings.{is_unset}
 use Rattle.table.specs.Table.{marked}
 use Rattle.table.specs.Marks.{link_unset, ip_unset, transport_unset, someip_unset, rate_unset, tracking_unset}
 use Rattle.table.specs.Words.{
@@ -76,24 +76,12 @@ use Rattle.table.specs.declared.Action.{Action}
 use Rattle.table.specs.declared.Action.TheVariants as action
 use Rattle.table.specs.declared.Kind.{Kind}
 use Rattle.table.specs.declared.Kind.TheVariants as kind
-use Rattle.table.specs.declared.Setting8.{Setting8}
-use Rattle.table.specs.declared.Setting8.TheVariants as set8
-use Rattle.table.specs.declared.Setting16.{Setting16}
-use Rattle.table.specs.declared.Setting16.TheVariants as set16
-use Rattle.table.specs.declared.Setting32.{Setting32}
-use Rattle.table.specs.declared.Setting32.TheVariants as set32
-use Rattle.table.specs.declared.Setting64.{Setting64}
-use Rattle.table.specs.declared.Setting64.TheVariants as set64
-use Rattle.table.specs.declared.KindSetting.{KindSetting}
-use Rattle.table.specs.declared.KindSetting.TheVariants as set_kind
-use Rattle.table.specs.declared.RangeSetting.{RangeSetting}
-use Rattle.table.specs.declared.RangeSetting.TheVariants as set_range
-use Rattle.table.specs.declared.PrefixSetting.{PrefixSetting}
-use Rattle.table.specs.declared.PrefixSetting.TheVariants as set_prefix
-use Rattle.table.specs.declared.Prefix6Setting.{Prefix6Setting}
-use Rattle.table.specs.declared.Prefix6Setting.TheVariants as set_prefix6
 use Rattle.table.specs.declared.Rule.{Rule}
 use Rattle.addresses.specs.declared.Wide.{Wide}
+use Rattle.table.specs.declared.Setting.{Setting}
+use Rattle.table.specs.declared.Setting.TheVariants.{Unset as unset, Set as set}
+use Rattle.table.specs.declared.Range.{Range}
+use Rattle.table.specs.declared.Prefix.{Prefix}
 
 -- ---- fields
 
@@ -192,66 +180,66 @@ picked false x y e = ap (λ (m : ℕ). cond (eqb m 1) x y) e
 -- a setting is read back where its mark and its value are
 module _ (w : List ℕ) (layer : ℕ) where
   setting8_read :
-      (s : Setting8) (bit from : ℕ) → bits bit 1 (word w layer) ≡ bit_of (is_unset (of8 s))
-      → bits from 8 (word w layer) ≡ value_or 0 (of8 s) → setting8_in w layer bit from ≡ s
+      (s : Setting ℕ) (bit from : ℕ) → bits bit 1 (word w layer) ≡ bit_of (is_unset s)
+      → bits from 8 (word w layer) ≡ value_or 0 s → setting8_in w layer bit from ≡ s
   unfolding marked setting8_in
-  setting8_read set8.Unset bit from e f = picked true _ _ e
-  setting8_read (set8.Set v) bit from e f = picked false _ _ e ∙ ap set8.Set f
+  setting8_read unset bit from e f = picked true _ _ e
+  setting8_read (set v) bit from e f = picked false _ _ e ∙ ap set f
 
   setting16_read :
-      (s : Setting16) (bit from : ℕ) → bits bit 1 (word w layer) ≡ bit_of (is_unset (of16 s))
-      → bits from 16 (word w layer) ≡ value_or 0 (of16 s) → setting16_in w layer bit from ≡ s
+      (s : Setting ℕ) (bit from : ℕ) → bits bit 1 (word w layer) ≡ bit_of (is_unset s)
+      → bits from 16 (word w layer) ≡ value_or 0 s → setting16_in w layer bit from ≡ s
   unfolding marked setting16_in
-  setting16_read set16.Unset bit from e f = picked true _ _ e
-  setting16_read (set16.Set v) bit from e f = picked false _ _ e ∙ ap set16.Set f
+  setting16_read unset bit from e f = picked true _ _ e
+  setting16_read (set v) bit from e f = picked false _ _ e ∙ ap set f
 
   setting32_read :
-      (s : Setting32) (bit from : ℕ) → bits bit 1 (word w layer) ≡ bit_of (is_unset (of32 s))
-      → bits from 32 (word w layer) ≡ value_or 0 (of32 s) → setting32_in w layer bit from ≡ s
+      (s : Setting ℕ) (bit from : ℕ) → bits bit 1 (word w layer) ≡ bit_of (is_unset s)
+      → bits from 32 (word w layer) ≡ value_or 0 s → setting32_in w layer bit from ≡ s
   unfolding marked setting32_in
-  setting32_read set32.Unset bit from e f = picked true _ _ e
-  setting32_read (set32.Set v) bit from e f = picked false _ _ e ∙ ap set32.Set f
+  setting32_read unset bit from e f = picked true _ _ e
+  setting32_read (set v) bit from e f = picked false _ _ e ∙ ap set f
 
   setting64_read :
-      (s : Setting64) (bit k : ℕ) → bits bit 1 (word w layer) ≡ bit_of (is_unset (of64 s))
-      → word w k ≡ value_or 0 (of64 s) → setting64_in w layer bit k ≡ s
+      (s : Setting ℕ) (bit k : ℕ) → bits bit 1 (word w layer) ≡ bit_of (is_unset s)
+      → word w k ≡ value_or 0 s → setting64_in w layer bit k ≡ s
   unfolding marked setting64_in
-  setting64_read set64.Unset bit k e f = picked true _ _ e
-  setting64_read (set64.Set v) bit k e f = picked false _ _ e ∙ ap set64.Set f
+  setting64_read unset bit k e f = picked true _ _ e
+  setting64_read (set v) bit k e f = picked false _ _ e ∙ ap set f
 
   kind_read :
-      (s : KindSetting) (bit from : ℕ) → bits bit 1 (word w layer) ≡ bit_of (is_unset (of_kind s))
+      (s : Setting Kind) (bit from : ℕ) → bits bit 1 (word w layer) ≡ bit_of (is_unset s)
       → bits from 8 (word w layer) ≡ kind_or s → kind_setting_in w layer bit from ≡ s
   unfolding marked kind_setting_in
-  kind_read set_kind.Unset bit from e f = picked true _ _ e
-  kind_read (set_kind.Set k) bit from e f = picked false _ _ e ∙ ap set_kind.Set (ap kind_from f ∙ kind_code_read k)
+  kind_read unset bit from e f = picked true _ _ e
+  kind_read (set k) bit from e f = picked false _ _ e ∙ ap set (ap kind_from f ∙ kind_code_read k)
 
   range_read :
-      (s : RangeSetting) (bit k from : ℕ) → bits bit 1 (word w layer) ≡ bit_of (is_unset (of_range s))
+      (s : Setting Range) (bit k from : ℕ) → bits bit 1 (word w layer) ≡ bit_of (is_unset s)
       → bits from 16 (word w k) ≡ (range_or s).low → bits (from + 16) 16 (word w k) ≡ (range_or s).high
       → range_in w layer bit k from ≡ s
   unfolding marked range_in
-  range_read set_range.Unset bit k from e f g = picked true _ _ e
-  range_read (set_range.Set v) bit k from e f g =
-      picked false _ _ e ∙ (λ i. set_range.Set (record { low = f i; high = g i }))
+  range_read unset bit k from e f g = picked true _ _ e
+  range_read (set v) bit k from e f g =
+      picked false _ _ e ∙ (λ i. set (record { low = f i; high = g i }))
 
   prefix_read :
-      (s : PrefixSetting) (bit from k at : ℕ) → bits bit 1 (word w layer) ≡ bit_of (is_unset (of_prefix s))
+      (s : Setting (Prefix ℕ)) (bit from k at : ℕ) → bits bit 1 (word w layer) ≡ bit_of (is_unset s)
       → bits from 8 (word w layer) ≡ (prefix_or s).length → bits at 32 (word w k) ≡ (prefix_or s).address
       → prefix_in w layer bit from k at ≡ s
   unfolding marked prefix_in
-  prefix_read set_prefix.Unset bit from k at e f g = picked true _ _ e
-  prefix_read (set_prefix.Set v) bit from k at e f g =
-      picked false _ _ e ∙ (λ i. set_prefix.Set (record { address = g i; length = f i }))
+  prefix_read unset bit from k at e f g = picked true _ _ e
+  prefix_read (set v) bit from k at e f g =
+      picked false _ _ e ∙ (λ i. set (record { address = g i; length = f i }))
 
   prefix6_read :
-      (s : Prefix6Setting) (bit from k : ℕ) → bits bit 1 (word w layer) ≡ bit_of (is_unset (of_prefix6 s))
+      (s : Setting (Prefix Wide)) (bit from k : ℕ) → bits bit 1 (word w layer) ≡ bit_of (is_unset s)
       → bits from 8 (word w layer) ≡ (prefix6_or s).length → word w k ≡ (prefix6_or s).address.high
       → word w (k + 1) ≡ (prefix6_or s).address.low → prefix6_in w layer bit from k ≡ s
   unfolding marked prefix6_in
-  prefix6_read set_prefix6.Unset bit from k e f g h = picked true _ _ e
-  prefix6_read (set_prefix6.Set v) bit from k e f g h =
-      picked false _ _ e ∙ (λ i. set_prefix6.Set (record { address = record { high = g i; low = h i }; length = f i }))
+  prefix6_read unset bit from k e f g h = picked true _ _ e
+  prefix6_read (set v) bit from k e f g h =
+      picked false _ _ e ∙ (λ i. set (record { address = record { high = g i; low = h i }; length = f i }))
 
 -- ---- rules
 
@@ -264,8 +252,8 @@ pub record HeldWide (a : Wide) (w : List ℕ) (k : ℕ) : Type 0 where
 pub record Held (r : Rule) (w : List ℕ) : Type 0 where
   pub rule : Laid (rule_fields r) (word w rule_word)
   pub link : Laid (link_fields r.link) (word w link_word)
-  pub destination : word w destination_word ≡ value_or 0 (of64 r.link.destination)
-  pub source : word w source_word ≡ value_or 0 (of64 r.link.source)
+  pub destination : word w destination_word ≡ value_or 0 r.link.destination
+  pub source : word w source_word ≡ value_or 0 r.link.source
   pub ip : Laid (ip_fields r.ipv4 r.ipv6) (word w ip_word)
   pub address : Laid (address_fields r.ipv4) (word w address_word)
   pub source6 : HeldWide (prefix6_or r.ipv6.source).address w source6_word

@@ -2,7 +2,6 @@
 -- Assumes nothing.
 use Rattle.std.specs.Prelude.{ℕ, ◌-◌, ◌≡◌, List, ◌∷◌, ◌++◌, map}
 use Rattle.numbers.specs.Lists.{copies}
-use Rattle.table.specs.Settings.{of64}
 use Rattle.fields.specs.Fields.{
   packed,
   value_or,
@@ -36,8 +35,8 @@ unfoldable pub rule_words : Rule → List ℕ
 rule_words r =
     packed (rule_fields r)
     ∷ packed (link_fields r.link)
-    ∷ value_or 0 (of64 r.link.destination)
-    ∷ value_or 0 (of64 r.link.source)
+    ∷ value_or 0 r.link.destination
+    ∷ value_or 0 r.link.source
     ∷ packed (ip_fields r.ipv4 r.ipv6)
     ∷ packed (address_fields r.ipv4)
     ∷ (prefix6_or r.ipv6.source).address.high

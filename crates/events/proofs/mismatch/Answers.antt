@@ -1,6 +1,5 @@
 -- `events::mismatch` meets its contract: layer by layer.
 use mathlib.Core.Path.{ap, ◌∙◌}
-use Rattle.table.specs.Settings.{of_kind}
 use Rattle.table.specs.Table.{is_tcp}
 use Rattle.table.specs.Words.{transport_in}
 use Rattle.table.specs.declared.TransportSettings.{TransportSettings}
@@ -29,14 +28,14 @@ pub returns-then-is_tcp : goal.returns-then-is_tcp
 unfolding mismatch_of
 returns-then-is_tcp c =
     let k = c in
-    let e : k.is_tcp.result ≡ is_tcp (of_kind (transport_in k.args.r.now).kind) = k.is_tcp.ensures ∙ ap (λ (s : TransportSettings). is_tcp (of_kind s.kind)) k.transport-transport.ensures in
+    let e : k.is_tcp.result ≡ is_tcp (of_kind (transport_in k.args.r.now).kind) = k.is_tcp.ensures ∙ ap (λ (s : TransportSettings). is_tcp s.kind) k.transport-transport.ensures in
     simp (ne_eqb _ _ k.if-layer-eq0.false, ne_eqb _ _ k.if-layer-eq1.false, eq-eqb _ _ k.if-layer-eq2.true, ← e, c.if-is_tcp.true)
 
 pub returns-then-layer-eq2 : goal.returns-then-layer-eq2
 unfolding mismatch_of
 returns-then-layer-eq2 c =
     let k = c in
-    let e : k.is_tcp.result ≡ is_tcp (of_kind (transport_in k.args.r.now).kind) = k.is_tcp.ensures ∙ ap (λ (s : TransportSettings). is_tcp (of_kind s.kind)) k.transport-transport.ensures in
+    let e : k.is_tcp.result ≡ is_tcp (of_kind (transport_in k.args.r.now).kind) = k.is_tcp.ensures ∙ ap (λ (s : TransportSettings). is_tcp s.kind) k.transport-transport.ensures in
     simp (ne_eqb _ _ k.if-layer-eq0.false, ne_eqb _ _ k.if-layer-eq1.false, eq-eqb _ _ k.if-layer-eq2.true, ← e, c.if-is_tcp.false)
 
 pub returns : goal.returns

@@ -1,7 +1,7 @@
 use mathlib.Core.Path.{◌∙◌}
 use lib.Dec.{eqb}
 use Rattle.numbers.proofs.Chains.{stops, goes}
-use Rattle.table.specs.Settings.{of8, agrees}
+use Rattle.table.specs.Settings.{agrees}
 use Rattle.std.proofs.Common.{ap, not}
 use Rattle.matching.specs.Matching.{link_matches}
 use Rattle.matching.proofs.rules.link_matches.Goals as goal
@@ -28,7 +28,7 @@ returns-then-not-agrees8 c =
     goes c.agrees64.ensures (ap not c.if-not-agrees64.false)
     (goes c.agrees64-2.ensures (ap not c.if-not-agrees64-2.false)
     (goes c.agrees16.ensures (ap not c.if-not-agrees16.false)
-    (stops _ (c.agrees8.ensures ∙ ap (agrees eqb (of8 c.args.r.socket)) c.socket_number.ensures) (ap not c.if-not-agrees8.true))))
+    (stops _ (c.agrees8.ensures ∙ ap (agrees eqb c.args.r.socket) c.socket_number.ensures) (ap not c.if-not-agrees8.true))))
 
 pub returns : goal.returns
 unfolding link_matches
@@ -36,5 +36,5 @@ returns c =
     goes c.agrees64.ensures (ap not c.if-not-agrees64.false)
     (goes c.agrees64-2.ensures (ap not c.if-not-agrees64-2.false)
     (goes c.agrees16.ensures (ap not c.if-not-agrees16.false)
-    (goes (c.agrees8.ensures ∙ ap (agrees eqb (of8 c.args.r.socket)) c.socket_number.ensures) (ap not c.if-not-agrees8.false)
+    (goes (c.agrees8.ensures ∙ ap (agrees eqb c.args.r.socket) c.socket_number.ensures) (ap not c.if-not-agrees8.false)
     c.tag_agrees.ensures)))
