@@ -18,7 +18,7 @@ ghost use Rattle.places.specs.Places.{
 ghost use Rattle.places.specs.Ageing.{with_age};
 
 use crate::*;
-use addresses::{Address, wide128};
+use addresses::Address;
 use flags::Phase;
 
 // 0 where the place is free, else the number of its phase.
@@ -77,8 +77,8 @@ pub fn ipv4_quad(second: bool, source: u32, destination: u32, ports: u32) -> Qua
     Quad {
         second,
         ipv6: false,
-        source: wide128(source),
-        destination: wide128(destination),
+        source: source.into(),
+        destination: destination.into(),
         ports,
     }
 }
