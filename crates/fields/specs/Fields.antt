@@ -2,6 +2,7 @@
 -- Assumes nothing.
 use Rattle.std.specs.Prelude.{ℕ, ◌+◌, ◌*◌, ◌^◌, ◌<◌, ◌≡◌, List, [], ◌∷◌, Bool, cond}
 use Rattle.table.specs.Marks.{link_unset, ip_unset, transport_unset, someip_unset, rate_unset, tracking_unset}
+use Rattle.table.specs.Settings.{value_or}
 use Rattle.table.specs.declared.Setting.{Setting}
 use Rattle.table.specs.declared.Setting.TheVariants.{Unset as unset, Set as set}
 use Rattle.table.specs.Words.{action_code, kind_code}
@@ -31,11 +32,6 @@ Within (f ∷ fs) = (f.1 < 2 ^ f.0) × Within fs
 pub record Laid (fs : List (ℕ × ℕ)) (w : ℕ) : Type 0 where
   pub is : w ≡ packed fs
   pub fit : Within fs
-
--- the value of a setting, or what stands in its place
-abbrev pub value_or : {A : Type 0} → A → Setting A → A
-value_or x unset = x
-value_or x (set v) = v
 
 -- the bit of a setting that is unset, or is not
 abbrev pub bit_of : Bool → ℕ

@@ -4,7 +4,6 @@ use Rattle.std.specs.Prelude.{ℕ, ◌-◌, ◌≡◌, List, ◌∷◌, ◌++◌
 use Rattle.numbers.specs.Lists.{copies}
 use Rattle.fields.specs.Fields.{
   packed,
-  value_or,
   prefix6_or,
   rule_fields,
   link_fields,
@@ -16,6 +15,7 @@ use Rattle.fields.specs.Fields.{
   rate_fields,
   tracking_fields,
 }
+use Rattle.table.specs.Settings.{value_or}
 use Rattle.table.specs.Words.{row_words, action_code}
 use Rattle.table.specs.declared.Rule.{Rule}
 use Rattle.table.specs.declared.State.{State}
