@@ -1,24 +1,17 @@
 -- Laws of bytes written one after the other.
 -- Assumes nothing.
-use Prim.Native.Nat.{ℕ, suc, ◌+◌, ◌-◌, ◌/◌, ◌%◌, ◌^◌, ◌<◌, ◌≤◌}
-use mathlib.Core.Path.{◌≡◌, refl, sym, ◌∙◌}
+use Prim.Native.Nat.{ℕ, suc, ◌+◌, ◌-◌, ◌^◌, ◌<◌}
+use mathlib.Core.Path.{◌≡◌, refl, sym, subst, ◌∙◌}
 use mathlib.Core.List.{List, [], ◌∷◌, ◌++◌, append_assoc, append-nil}
-use lib.ListN.{length, take, drop, set, get_or, length-append, length-set}
-use lib.Seq.{sets, sets-eq, set_at, take_at, drop_at, drop-cons, drop-drop, drop-set-lt, get_or-set_same}
-use native.Mathlib.Nat.{zero-add}
-use native.Mathlib.Numerals.{add-one}
+use lib.ListN.{length, take, drop, set, get_or, length-append}
+use lib.Seq.{set_at, take_at, drop_at, drop-cons, drop-drop}
 use native.Mathlib.Omega.{arith}
-use Rattle.numbers.specs.Lists.{written, Wrote}
+use Rattle.numbers.specs.Lists.{Wrote}
 use Rattle.numbers.proofs.Elements.{part_all, part_none}
-use Rattle.lines.specs.Decimal.{digit, decimal, last_digits}
+use Rattle.std.specs.Fmt as Fmt
+use Rattle.lines.specs.Decimal.{decimal}
 use Rattle.lines.specs.Lines.{row, letter_r}
-use Rattle.lines.proofs.Decimals.{decimal_own}
-
--- bytes stored from the first place on
-pub wrote_front : (b s : List ℕ) → length b ≤ length s → Wrote b s (sets s 0 b) (length b)
-wrote_front b s h =
-    let z : 0 + length b ≡ length b = zero-add (length b) in
-    record { count = refl; left = rw z at (sets-eq b s 0 (rw z h)) }
+use Rattle.lines.proofs.Decimals.{as_printed}
 
 -- one byte behind
 pub wrote_byte : {b s t : List ℕ} {n : ℕ} (a : ℕ) → Wrote b s t n → n < length s → Wrote (b ++ (a ∷ [])) s (set t n a) (n + 1)
@@ -42,20 +35,11 @@ wrote_two {b} {d} {s} {t} {y} {n} {k} w v =
       left = rw (part_none t n, append-nil y, p, r, length-append b d) (sym (append_assoc b d (drop (length b + length d) s)));
     }
 
--- ---- digits from the last to the first
-
--- one digit more is stored: what stands from its place on is final, what is still to be stored before it has a digit less
-pub digits_more :
-    (all out : List ℕ) (i x : ℕ) → i < length out → last_digits (i + 1) x ++ drop (i + 1) out ≡ all
-    → last_digits i (x / 10) ++ drop i (set out i (digit (x % 10))) ≡ all
-unfolding last_digits
-digits_more all out i x h e =
-    let d : drop i (set out i (digit (x % 10))) ≡ digit (x % 10) ∷ drop (suc i) out = rw (drop-cons (set out i (digit (x % 10))) i 0 (rw (length-set out i (digit (x % 10))) h), get_or-set_same out i (digit (x % 10)) 0 h, drop-set-lt (suc i) out i (digit (x % 10)) (omega arith)) in
-    rw d (sym (append_assoc (last_digits i (x / 10)) (digit (x % 10) ∷ []) (drop (suc i) out)) ∙ rw add-one at e)
-
-pub wrote_number :
-    {s t : List ℕ} (x n : ℕ) → x < 10 ^ 20 → n ≡ length (decimal x) → t ≡ written (last_digits n x) s → Wrote (decimal x) s t n
-wrote_number x n h c e = record { count = c; left = rw (decimal_own x h, ← c) e }
+-- and behind a number, as the library prints it
+pub wrote_word :
+    {t s u : List ℕ} {n : ℕ} (x a : ℕ) → Wrote t s u n → n < length s → t ≡ Fmt.decimal x → x < 10 ^ 20
+    → Wrote (decimal x ++ (a ∷ [])) s (set u n a) (n + 1)
+wrote_word {t} {s} {u} {n} x a w l e h = subst (λ d. Wrote (d ++ (a ∷ [])) s (set u n a) (n + 1)) (e ∙ as_printed x h) (wrote_byte a w l)
 
 -- ---- the words of a line
 

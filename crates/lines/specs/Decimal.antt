@@ -14,8 +14,3 @@ decimal_by (suc n) x = cond (ltb x 10) (digit x ∷ []) (decimal_by n (x / 10) +
 -- a number of 64 bits has at most 20
 abbrev pub decimal : ℕ → List ℕ
 decimal x = decimal_by 20 x
-
--- the last n digits of a number, zeros in front where it has fewer
-unfoldable pub last_digits : ℕ → ℕ → List ℕ
-last_digits zero x = []
-last_digits (suc n) x = last_digits n (x / 10) ++ (digit (x % 10) ∷ [])

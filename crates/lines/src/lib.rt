@@ -8,7 +8,7 @@ ghost use Rattle.numbers.specs.Lists.{Wrote};
 ghost use Rattle.lines.specs.Decimal.{decimal};
 ghost use Rattle.lines.specs.Lines.{row, letter_r, two_words, text_of, line_room};
 
-use digits::{pair, word};
+use digits::{put, word};
 
 // What a line tells: the file cut short, a bad file header, a record refused or judged. A time is in milliseconds, an event 0 where there is none.
 #[derive(Clone, Copy)]
@@ -41,8 +41,7 @@ fn cut_short(out: &mut [u8]) -> usize
     requires { line_room ≤ length out.old }
     ensures { Wrote (text_of Line.Cut) out.old out.new result }
 {
-    let n = pair(b'c', b'u', out);
-    n + pair(b't', b'\n', &mut out[n..])
+    put(b"cut\n", out)
 }
 
 // A refusal that is alone on its line.
@@ -50,8 +49,8 @@ fn alone(number: u8, out: &mut [u8]) -> usize
     requires { line_room ≤ length out.old }
     ensures { Wrote (row (letter_r ∷ decimal number ∷ [])) out.old out.new result }
 {
-    let n = pair(b'R', b' ', out);
-    n + word(number as u64, b'\n', &mut out[n..])
+    let n = put(b"R ", out);
+    n + word(u64::from(number), b'\n', &mut out[n..])
 }
 
 // Two numbers, a space behind each.
@@ -69,8 +68,8 @@ fn refused(place: u64, time: u64, number: u8, out: &mut [u8]) -> usize
     ensures { Wrote (text_of (Line.Refused place time number)) out.old out.new result }
 {
     let n = spaced(place, time, out);
-    let m = n + pair(b'R', b' ', &mut out[n..]);
-    m + word(number as u64, b'\n', &mut out[m..])
+    let m = n + put(b"R ", &mut out[n..]);
+    m + word(u64::from(number), b'\n', &mut out[m..])
 }
 
 fn judged(place: u64, time: u64, verdict: u8, rule: u16, event: u16, out: &mut [u8]) -> usize
@@ -78,8 +77,8 @@ fn judged(place: u64, time: u64, verdict: u8, rule: u16, event: u16, out: &mut [
     ensures { Wrote (text_of (Line.Judged place time verdict rule event)) out.old out.new result }
 {
     let n = spaced(place, time, out);
-    let m = n + spaced(verdict as u64, rule as u64, &mut out[n..]);
-    m + word(event as u64, b'\n', &mut out[m..])
+    let m = n + spaced(u64::from(verdict), u64::from(rule), &mut out[n..]);
+    m + word(u64::from(event), b'\n', &mut out[m..])
 }
 
 // Writes the line to the start of the space, and nothing beyond it: called for each record with what is left of a buffer, at least ROOM bytes.
