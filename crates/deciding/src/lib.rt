@@ -5,12 +5,11 @@ ghost use Rattle.std.specs.Prelude.{◌≡◌, cond, suc, ◌<◌, ◌≤◌};
 ghost use Rattle.numbers.specs.Lists.{leading};
 ghost use Rattle.table.specs.Table.{most_rules, most_states, marked as marked_at};
 ghost use Rattle.table.specs.Words.{rule_in, table_in};
-ghost use Rattle.layers.specs.Inside.{Inside};
-ghost use Rattle.layers.specs.Seen.{seen};
+ghost use Rattle.layers.specs.Seen.{seen_of};
 ghost use Rattle.matching.specs.Matching.{layer_tests};
 ghost use Rattle.deciding.specs.Best.{best_of, decision_of};
 
-use layers::Layers;
+use layers::Seen;
 use matching::rules::layers_matched;
 use table::RULES;
 use table::settings::*;
@@ -38,29 +37,27 @@ const LAYERS: usize = 4;
 const WHOLE: usize = LAYERS + 1;
 
 // One more than the layers matched of an active rule, and 0 for one that is not active.
-fn score(r: &RuleWords, marks: u64, i: usize, second: bool, s: &[u8], l: Layers) -> usize
-    requires place { i < most_rules }
-    requires inside { Inside s.now l }
-    ensures { result ≡ cond (marked_at marks i) (suc (leading (layer_tests (rule_in r.now) (seen second s.now l)))) 0 }
+fn score(r: &RuleWords, marks: u64, i: usize, x: &Seen) -> usize
+    requires { i < most_rules }
+    ensures { result ≡ cond (marked_at marks i) (suc (leading (layer_tests (rule_in r.now) (seen_of x.now)))) 0 }
 {
     if !marked(marks, i) {
         return 0;
     }
-    layers_matched(r, second, s, l) + 1
+    layers_matched(r, x) + 1
 }
 
 // The first of the active rules with the greatest score. None is above that of a rule that matches, so none behind one is looked at.
-fn best_fit(t: &TableWords, state: usize, second: bool, s: &[u8], l: Layers) -> Best
+fn best_fit(t: &TableWords, state: usize, x: &Seen) -> Best
     requires state { state < most_states }
     requires rules { (table_in t.now).rulecount ≤ most_rules }
-    requires inside { Inside s.now l }
-    ensures { result ≡ best_of (table_in t.now) state (seen second s.now l) }
+    ensures { result ≡ best_of (table_in t.now) state (seen_of x.now) }
 {
     let marks = marks_of(t, state);
     let mut place = RULES;
     let mut most = 0;
     for i in 0..rulecount(t) {
-        let n = score(&t[i], marks, i, second, s, l);
+        let n = score(&t[i], marks, i, x);
         if most < n {
             place = i;
             most = n;
@@ -82,13 +79,12 @@ fn best_fit(t: &TableWords, state: usize, second: bool, s: &[u8], l: Layers) -> 
 }
 
 // Who decides is told by the best fit, so that one walk finds both: it decides where all four layers match.
-pub fn decide(t: &TableWords, state: usize, second: bool, s: &[u8], l: Layers) -> Decision
+pub fn decide(t: &TableWords, state: usize, x: &Seen) -> Decision
     requires state { state < most_states }
     requires rules { (table_in t.now).rulecount ≤ most_rules }
-    requires inside { Inside s.now l }
-    ensures { result ≡ decision_of (table_in t.now) state (seen second s.now l) }
+    ensures { result ≡ decision_of (table_in t.now) state (seen_of x.now) }
 {
-    let best = best_fit(t, state, second, s, l);
+    let best = best_fit(t, state, x);
     let decider = if best.layer == LAYERS {
         best.place
     } else {

@@ -4,8 +4,6 @@
 ghost use Rattle.std.specs.Prelude.{◌≡◌, Bool, ◌++◌, ◌/◌, ◌%◌, ◌≤◌, length, drop};
 ghost use Rattle.numbers.specs.Bytes.{byte};
 ghost use Rattle.numbers.specs.Lists.{Wrote};
-ghost use Rattle.layers.specs.Inside.{Inside};
-ghost use Rattle.layers.specs.Layers.{least};
 ghost use Rattle.layers.specs.Seen.{seen};
 ghost use Rattle.table.specs.Words.{rule_in};
 ghost use Rattle.events.specs.Events.{array, number_of, event_bytes, longest_event, mismatch_of};
@@ -21,7 +19,7 @@ ghost use Rattle.events.specs.Arrays.{
   span_of,
 };
 
-use layers::Layers;
+use layers::{Layers, Seen};
 use packets::Ip;
 use payloads::{Bundle, Transport};
 use table::settings::is_tcp;
@@ -219,17 +217,15 @@ fn fill(header: &[u8], space: &mut [u8])
     }
 }
 
-// Writes the event to the start of the space, and nothing beyond it.
-pub fn write(e: Event, id: u16, frame: &[u8], l: Layers, space: &mut [u8]) -> usize
-    requires inside { Inside frame.now l }
-    requires long { least ≤ length frame.now }
-    requires room { longest_event ≤ length space.old }
-    ensures { (second : Bool) → Wrote (event_bytes e id (seen second frame.now l)) space.old space.new result }
+// Writes the event to the start of the space, and nothing beyond it. No event shows the socket.
+pub fn write(e: Event, id: u16, x: &Seen, space: &mut [u8]) -> usize
+    requires { longest_event ≤ length space.old }
+    ensures { (second : Bool) → Wrote (event_bytes e id (seen second x.now.frame.now x.now.layers)) space.old space.new result }
 {
     head(e.number(), id, space);
-    let Span { at, len } = span_of(e, l);
+    let Span { at, len } = span_of(e, x.layers);
     let stop = e.length();
-    fill(&frame[at..at + len], &mut space[4..stop]);
+    fill(&x.frame[at..at + len], &mut space[4..stop]);
     stop
 }
 

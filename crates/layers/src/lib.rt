@@ -3,7 +3,11 @@
 
 ghost use Rattle.std.specs.Prelude.{◌≡◌, false};
 ghost use Rattle.layers.specs.Layers.{layers_of, too_short, refusal_number, shown_of};
+ghost use Rattle.layers.specs.Seen.{said_seen, see_of};
 
+pub mod seen;
+
+pub use crate::seen::Seen;
 use packets::ip_layer::read_ip;
 use packets::link_layer::{TAGGED_BYTES, is_tagged, read_link};
 use packets::{Ip, Link};
@@ -94,4 +98,18 @@ pub fn read(frame: &[u8]) -> Result<Layers, FrameRefusal>
         return Err(FrameRefusal::TooLong);
     }
     Ok(read_layers(frame))
+}
+
+/// The same of a frame that came on a socket, the second or not, with its bytes and its socket kept beside the layers:
+///
+///     let seen = layers::see(false, frame)?;
+pub fn see<'a>(second: bool, frame: &'a [u8]) -> Result<Seen<'a>, FrameRefusal>
+    ensures { said_seen result ≡ see_of second frame.now }
+{
+    let layers = read(frame)?;
+    Ok(Seen {
+        second,
+        frame,
+        layers,
+    })
 }

@@ -3,8 +3,7 @@ ghost use Rattle.std.specs.Prelude.{◌≡◌, Some};
 ghost use Rattle.numbers.specs.Lists.{every, leading};
 ghost use Rattle.payloads.specs.Someip.{messages_of};
 ghost use Rattle.payloads.specs.Inside.{BundleInside, SomeipInside};
-ghost use Rattle.layers.specs.Inside.{Inside};
-ghost use Rattle.layers.specs.Seen.{seen};
+ghost use Rattle.layers.specs.Seen.{seen_of};
 ghost use Rattle.matching.specs.Matching.{
   tag_tests,
   link_matches,
@@ -21,7 +20,7 @@ ghost use Rattle.matching.specs.Matching.{
 ghost use Rattle.table.specs.Words.{ipv4_in, ipv6_in, someip_in, rule_in};
 
 use crate::agrees::*;
-use layers::Layers;
+use layers::Seen;
 use packets::*;
 use payloads::someip_layer::message_at;
 use payloads::*;
@@ -149,20 +148,19 @@ pub(crate) fn someip_matches(r: &RuleWords, s: &[u8], x: Option<Bundle>) -> bool
 
 // The layers that match, from link upward to the first that does not.
 #[tactic(auto, unfolding(crate::specs::Matching::layer_tests))]
-pub fn layers_matched(r: &RuleWords, second: bool, s: &[u8], l: Layers) -> usize
-    requires { Inside s.now l }
-    ensures { result ≡ leading (layer_tests (rule_in r.now) (seen second s.now l)) }
+pub fn layers_matched(r: &RuleWords, x: &Seen) -> usize
+    ensures { result ≡ leading (layer_tests (rule_in r.now) (seen_of x.now)) }
 {
-    if !link_matches(words::link(r), second, l.link) {
+    if !link_matches(words::link(r), x.second, x.layers.link) {
         return 0;
     }
-    if !ip_matches(r, l.ip) {
+    if !ip_matches(r, x.layers.ip) {
         return 1;
     }
-    if !transport_matches(words::transport(r), l.transport) {
+    if !transport_matches(words::transport(r), x.layers.transport) {
         return 2;
     }
-    if !someip_matches(r, s, l.someip) {
+    if !someip_matches(r, x.frame, x.layers.someip) {
         return 3;
     }
     4
