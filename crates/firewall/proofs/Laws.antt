@@ -24,7 +24,7 @@ use Rattle.records.specs.Step.{fresh_of, switched_to}
 use Rattle.events.specs.Events.{event_room}
 use Rattle.steps.specs.declared.Answer.{Answer}
 use Rattle.steps.specs.Steps.{Arrival, seen_of, outcome_of, Stepped, stepped, stepped_as}
-use Rattle.firewall.specs.declared.refusal.Refusal.{Refusal}
+use Rattle.firewall.specs.Firewall.{Refused}
 use Rattle.steps.proofs.Laws.{words_are}
 use Rattle.firewall.specs.Firewall.{
   Said,
@@ -66,7 +66,7 @@ module _ (t : Table) (w : Lent) where
 
 -- what is refused was refused by the check
 first_refused :
-    {A : Type 0} (say : Said → A) (rest : A) (r : Refusal) (f : Fault) (b : Bool) → refused r ≡ if_table f bad_table (cond b done bad_record)
+    {A : Type 0} (say : Said → A) (rest : A) (r : Refused) (f : Fault) (b : Bool) → refused r ≡ if_table f bad_table (cond b done bad_record)
     → say (refused r) ≡ if_table f (λ x. say (bad_table x)) (cond b rest (say bad_record))
 first_refused say rest r (fault.At x) b e = ap say e
 first_refused say rest r fault.Good false e = ap say e
@@ -110,7 +110,7 @@ switched_records state h c p e =
     }
 
 module _ (t : Table) (state : ℕ) (w : Lent) where
-  pub switch_refused : (r : Refusal) → refused r ≡ check_of t w → leaves (refused r) w ≡ switch_of t state w
+  pub switch_refused : (r : Refused) → refused r ≡ check_of t w → leaves (refused r) w ≡ switch_of t state w
   unfolding check_of switch_of
   switch_refused r e = first_refused (λ x. leaves x w) _ r (fault_of t) (records_good t (records_of w)) e
 
@@ -135,7 +135,7 @@ switch_done t state h k c p e m s q =
 -- ---- judge
 
 module _ (t : Table) (w : Lent) (a : Arrival) (space : List ℕ) where
-  pub judge_refused : (r : Refusal) → refused r ≡ check_of t w → says (refused r) w space ≡ judge_of t w a space
+  pub judge_refused : (r : Refused) → refused r ≡ check_of t w → says (refused r) w space ≡ judge_of t w a space
   unfolding check_of judge_of
   judge_refused r e = first_refused (λ x. says x w space) _ r (fault_of t) (records_good t (records_of w)) e
 
