@@ -277,9 +277,10 @@ module _ {t : Table} {st : State} {r : Run} {s space : List ℕ} {n : ℕ} {f : 
       ∙ (ap (behind_others f.used a) (fed_goes t (left - 1) f.state (run f.place w) (drop f.used s) (drop f.count out) no_more)
       ∙ (behind_twice f.used moved.used a (take moved.count moved.space) rest ∙ (sym here ∙ ap go (sym e)))))
 
-  pub underway_next : fault_of t ≡ fault.Good → g.more ≡ false → Underway t st r s space n g v (left - 1) o
-  underway_next table m =
-      record {
+  pub underway_next : fault_of t ≡ fault.Good → g.more ≡ false → (rest : ℕ) → rest ≡ left - 1 → Underway t st r s space n g v rest o
+  underway_next table m rest less =
+      rw less
+      (record {
         same = goes_on_lem m;
         within = omega (arith, u.within, next_used, fed_within t 1 f.state (run f.place w) (drop f.used s) (drop f.count out), length-drop f.used s);
         room = rw next_size (omega (arith, u.room, next_count, fed_count t 1 f.state (run f.place w) (drop f.used s) (drop f.count out)));
@@ -287,7 +288,7 @@ module _ {t : Table} {st : State} {r : Run} {s space : List ℕ} {n : ℕ} {f : 
         places = omega (arith, u.places, ap (λ (x : AfterFeed). x.place) e, fed_place t 1 f.state (run f.place w) (drop f.used s) (drop f.count out));
         good = subst (λ (x : AfterFeed). Begun t (run x.place x.words)) (sym e) (fed_begun t 1 f.state (run f.place w) (drop f.used s) (drop f.count out) table u.good);
         waits = m;
-      }
+      })
 
   -- a move that needs more is the last
   pub underway_last : g.more ≡ true → feeds g v o ≡ fed_of t n st r s space
