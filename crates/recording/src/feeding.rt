@@ -88,13 +88,7 @@ fn feed_one(
 }
 
 // One more move, behind those of a call that left `f`.
-fn feed_next(
-    t: &TableWords,
-    f: Fed,
-    s: &[u8],
-    words: &mut RecordWords,
-    out: &mut [u8],
-) -> Fed
+fn feed_next(t: &TableWords, f: Fed, s: &[u8], words: &mut RecordWords, out: &mut [u8]) -> Fed
     requires ready { Ready (table_in t.now) words.old f.place 1 }
     requires room { (f.used ≤ length s.now) × (f.count + line_room ≤ length out.old) }
     ensures { feeds result words.new out.new
@@ -139,7 +133,7 @@ pub fn feed(
         count: 0,
         more: false,
     };
-    for i in 0..out.len() / ROOM {
+    for _move in 0..out.len() / ROOM {
         f = feed_next(t, f, s, words, out);
         if f.more {
             return f;
