@@ -35,6 +35,7 @@ use table::Table;
 use table::words::{ROW_WORDS, ROWS, TableWords, statecount};
 
 // Is the table good, and then the record?
+#[tactic(auto, unfolding(crate::specs::Firewall::check_of))]
 pub fn check(t: &TableWords, words: &RecordWords) -> Result<(), Refusal>
     ensures { said_done result ≡ check_of (table_in t.now) words.now }
 {
@@ -49,6 +50,7 @@ pub fn check(t: &TableWords, words: &RecordWords) -> Result<(), Refusal>
 }
 
 // A fresh record: state 0, all else empty or zero.
+#[tactic(auto, using(crate::proofs::Laws::start_fresh), unfolding(crate::specs::Firewall::start_of))]
 pub fn fresh(t: &TableWords, reading: u64, words: &mut RecordWords) -> Result<(), Refusal>
     ensures { leaves (said_done result) words.new ≡ start_of (table_in t.now) reading words.old }
 {

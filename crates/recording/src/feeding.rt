@@ -143,6 +143,7 @@ pub fn feed(
 }
 
 /// The line that the end of the capture adds, written to the start of `out`; how many bytes it has, 0 where there is none.
+#[tactic(auto, unfolding(crate::specs::Run::text_of_all))]
 pub fn finish(e: End, out: &mut [u8]) -> usize
     requires { line_room ≤ length out.old }
     ensures { Wrote (text_of_all (end_lines e)) out.old out.new result }

@@ -24,6 +24,7 @@ pub(crate) fn begin(t: &TableWords, place: u64, time: u64, words: &mut RecordWor
 }
 
 // The number at the start of an event, 0 where there is none.
+#[tactic(auto, unfolding(crate::specs::Run::event_number))]
 fn event_number(length: usize, space: &[u8; ROOM]) -> u16
     ensures { result ≡ event_number length space.now }
 {

@@ -21,6 +21,7 @@ impl<C, P> Words<C, P> {
 }
 
 impl RecordWords {
+    #[tactic(auto, unfolding(crate::specs::Records::records_of, crate::specs::Step::fresh_of))]
     pub fn fresh(reading: u64) -> RecordWords
         ensures { records_of result ≡ fresh_of reading }
     {

@@ -85,6 +85,7 @@ pub(crate) fn turn(second: bool, ip: Ip, t: Transport) -> Turn
     }
 }
 
+#[tactic(auto, using(table::proofs::Rows::rule_at_lem))]
 fn id_at(t: &TableWords, d: usize) -> u16
     ensures { result ≡ id_at (table_in t.now) d }
 {
@@ -104,6 +105,7 @@ fn wrong_step(v: Verdict) -> bool
 }
 
 // Verdicts 0, 1 and 2 have no event.
+#[tactic(auto, unfolding(crate::specs::Steps::event_for))]
 fn event_for(v: Verdict) -> Report
     ensures { result ≡ event_for v.number }
 {
@@ -123,6 +125,7 @@ fn event_for(v: Verdict) -> Report
 }
 
 // The mismatch event of the best fit. With no active rule: link and 65,535. The socket is for the promise alone, here and below: no event shows it.
+#[tactic(auto, using(table::proofs::Rows::rule_at_lem, crate::proofs::Laws::best_rule, crate::proofs::Laws::wrote))]
 fn write_best(
     t: &TableWords,
     state: usize,
