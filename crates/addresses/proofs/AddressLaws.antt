@@ -1,7 +1,7 @@
 -- Two addresses are the same where kind and all bits are.
 -- Assumes nothing.
 use mathlib.Core.Path.{◌≡◌, refl, sym}
-use mathlib.Core.Bool.{Bool, true, ◌&&◌, beq, and-true}
+use mathlib.Core.Bool.{Bool, true, beq}
 use mathlib.Core.List.{List, [], ◌∷◌}
 use Prim.Native.Nat.{ℕ}
 use lib.Dec.{eqb}
@@ -33,10 +33,3 @@ same_equal a b e = λ i. record {
 pub same_itself : (a : Address) → same_address a a ≡ true
 unfolding same_address
 same_itself a = simp (beq_itself a.ipv6, eq-eqb a.bits.high a.bits.high refl, eq-eqb a.bits.low a.bits.low refl)
-
--- the code's test
-pub by_words :
-    (a b : Address)
-    → (beq a.ipv6 b.ipv6 && (eqb a.bits.high b.bits.high && eqb a.bits.low b.bits.low)) ≡ same_address a b
-unfolding same_address
-by_words a b = simp and-true

@@ -8,13 +8,13 @@ use Rattle.packets.specs.declared.Ip.{Ip}
 use Rattle.packets.specs.declared.Ip.TheVariants as ip
 use Rattle.payloads.specs.declared.Transport.{Transport}
 use Rattle.payloads.specs.declared.Transport.TheVariants as transport
-use Rattle.payloads.specs.declared.Someip.{Someip}
+use Rattle.payloads.specs.declared.Bundle.{Bundle}
+use Rattle.std.specs.Prelude.{Option}
 use Rattle.payloads.specs.declared.Message.{Message}
 use Rattle.payloads.specs.Someip.{someip_bytes, messages_of}
 use Rattle.layers.specs.Seen.{Seen}
 use Rattle.table.specs.declared.Rule.{Rule}
 use Rattle.table.specs.Marks.{ipv6_unset}
-use Rattle.table.specs.Settings.{of_kind}
 use Rattle.table.specs.Table.{is_tcp}
 use Rattle.events.specs.declared.Event.{Event}
 use Rattle.events.specs.declared.Event.TheVariants as event
@@ -61,7 +61,7 @@ abbrev pub first_header : List ℕ → List Message → List ℕ
 first_header s [] = []
 first_header s (m ∷ ms) = part s m.header someip_bytes
 
-abbrev pub someip_header : List ℕ → Someip → List ℕ
+abbrev pub someip_header : List ℕ → Option Bundle → List ℕ
 someip_header s x = first_header s (messages_of s x)
 
 -- "MAC_Address is the source MAC"
@@ -133,4 +133,4 @@ unfoldable pub mismatch_of : Rule → ℕ → Event
 mismatch_of r layer =
     cond (eqb layer 0) event.LinkMismatch
     (cond (eqb layer 1) (cond (every (ipv6_unset r.ipv6)) event.Ipv4Mismatch event.Ipv6Mismatch)
-    (cond (eqb layer 2) (cond (is_tcp (of_kind r.transport.kind)) event.TcpMismatch event.UdpMismatch) event.SomeipMismatch))
+    (cond (eqb layer 2) (cond (is_tcp r.transport.kind) event.TcpMismatch event.UdpMismatch) event.SomeipMismatch))

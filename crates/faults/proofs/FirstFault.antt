@@ -6,45 +6,44 @@ use mathlib.Core.Bool.{Bool, true, false, not, cond}
 use borrow.Author.Tests.{lt-ltb, le-ltb}
 use Rattle.numbers.specs.Lists.{first_from, first}
 use Rattle.numbers.proofs.Lists.{first_here, first_next, first_none}
-use Rattle.table.specs.Table.{most_rules, rule_at}
+use Rattle.table.specs.Table.{most_rules}
 use Rattle.ranges.specs.declared.setting_number.SettingNumber.{SettingNumber}
 use Rattle.ranges.specs.Ranges.{fault_in}
-use Rattle.faults.specs.Faults.{fresh_id, tests_at, faulty, states_good, table_fault, fault_of}
+use Rattle.faults.specs.Faults.{tests_at, faulty, states_good, table_fault, fault_of}
 use Rattle.table.specs.declared.Table.{Table}
-use Rattle.faults.specs.declared.Fault.TheVariants as fault
-use Rattle.ranges.proofs.Tests.{IsNone, one_fails, none_fails}
-use Rattle.ranges.proofs.Rules.{rule_named}
+use Rattle.std.specs.Prelude.{Ok, Err}
+use Rattle.faults.specs.declared.AtFault.TheVariants as at
+use Rattle.ranges.proofs.Tests.{one_fails, none_fails}
 
-pub fault_count : (t : Table) → most_rules < t.rulecount → fault.At table_fault ≡ fault_of t
+pub fault_count : (t : Table) → most_rules < t.rulecount → Err table_fault ≡ fault_of t
 unfolding fault_of
 fault_count t h = rw (lt-ltb most_rules t.rulecount h)
 
 module _ (t : Table) (small : t.rulecount ≤ most_rules) where
   pub fault_here :
-      (i : ℕ) {n : SettingNumber} → i < t.rulecount
+      (i : ℕ) (n : SettingNumber) → i < t.rulecount
       → first_from (faulty t) i (t.rulecount - i) ≡ first (faulty t) t.rulecount
-      → n ≡ fault_in (tests_at t i) → (IsNone n → ⊥) → fault.At (record { place = i; setting = n }) ≡ fault_of t
+      → fault_in (tests_at t i) ≡ Err n → Err (at.Rule i n) ≡ fault_of t
   unfolding fault_of faulty
-  fault_here i h f e k =
-      let bad : faulty t i ≡ true = ap not (one_fails (tests_at t i) (λ q. k (ap (λ (x : SettingNumber). x.number) e ∙ q))) in
+  fault_here i n h f e =
+      let bad : faulty t i ≡ true = ap not (one_fails (tests_at t i) e) in
       let g : first (faulty t) t.rulecount ≡ i = sym f ∙ first_here (faulty t) t.rulecount i h bad in
       rw (g, lt-ltb i t.rulecount h, le-ltb most_rules t.rulecount small, e)
 
   pub fault_next :
-      (i : ℕ) {n : SettingNumber} → i < t.rulecount
+      (i : ℕ) → i < t.rulecount
       → first_from (faulty t) i (t.rulecount - i) ≡ first (faulty t) t.rulecount
-      → n ≡ fault_in (tests_at t i) → IsNone n
+      → fault_in (tests_at t i) ≡ Ok tt
       → first_from (faulty t) (i + 1) (t.rulecount - (i + 1)) ≡ first (faulty t) t.rulecount
   unfolding faulty
-  fault_next i h f e k =
-      let good : faulty t i ≡ false =
-      ap not (none_fails (tests_at t i) (rule_named (fresh_id t i) (rule_at t i)) (ap (λ (x : SettingNumber). x.number) (sym e) ∙ k)) in
+  fault_next i h f e =
+      let good : faulty t i ≡ false = ap not (none_fails (tests_at t i) e) in
       sym (first_next (faulty t) t.rulecount i h good) ∙ f
 
   pub fault_states :
       (i : ℕ) (b : Bool) → t.rulecount ≤ i
       → first_from (faulty t) i (t.rulecount - i) ≡ first (faulty t) t.rulecount
-      → b ≡ states_good t.rulecount t.statecount t.states → cond b fault.Good (fault.At table_fault) ≡ fault_of t
+      → b ≡ states_good t.rulecount t.statecount t.states → cond b (Ok tt) (Err table_fault) ≡ fault_of t
   unfolding fault_of
   fault_states i b h f e =
       let g : first (faulty t) t.rulecount ≡ i = sym f ∙ first_none (faulty t) t.rulecount i h in

@@ -3,7 +3,8 @@
 use Prim.Native.Nat.{ℕ, ◌+◌, ◌<◌, ◌≤◌}
 use mathlib.Core.Path.{◌≡◌, refl, sym, ap, ◌∙◌}
 use mathlib.Core.List.{List}
-use mathlib.Core.Bool.{Bool, true, false, not}
+use mathlib.Core.Bool.{Bool, true, false, cond, not}
+use mir.Val.{bool_byte}
 use native.Mathlib.Omega.{arith}
 use borrow.Author.Tests.{eqb-true, eqb-false, eq-eqb}
 use lib.Dec.{eqb}
@@ -15,6 +16,11 @@ use Rattle.numbers.proofs.Tests.{below_same}
 use Rattle.table.specs.Table.{most_rules, rule_at}
 use Rattle.faults.specs.Faults.{other_id, fresh_id, Listed}
 use Rattle.table.specs.declared.Table.{Table}
+
+-- a flag as a number
+pub flag_is : (b : Bool) → bool_byte b ≡ cond b 1 0
+flag_is true = refl
+flag_is false = refl
 
 -- one id more
 pub listed_next : (t : Table) (l : List ℕ) (i n : ℕ) → i < length l → n ≡ (rule_at t i).id → Listed t l i → Listed t (put l i n) (i + 1)

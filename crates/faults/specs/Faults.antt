@@ -1,14 +1,14 @@
 -- When a table is bad, and where its first fault stands. Document 01, 'Rules and vehicle states' and refusal 4; change request 1/12.
 -- Assumes nothing.
+use Rattle.std.specs.Prelude.{Result, Ok, Err, ⊤}
 use Rattle.std.specs.Prelude.{ℕ, ◌/◌, ◌^◌, ◌<◌, ◌≡◌, List, Bool, cond, ◌&&◌, not, get_or, leb, ltb, eqb}
 use Rattle.numbers.specs.Lists.{first, all_below}
-use Rattle.ranges.specs.Numbers.{none}
 use Rattle.ranges.specs.Ranges.{known_action, Test, rule_tests, all_good, fault_in}
 use Rattle.table.specs.declared.State.{State}
 use Rattle.table.specs.declared.Table.{Table}
 use Rattle.faults.specs.declared.AtFault.{AtFault}
-use Rattle.faults.specs.declared.Fault.{Fault}
-use Rattle.faults.specs.declared.Fault.TheVariants as fault
+use Rattle.faults.specs.declared.AtFault.TheVariants as at
+use Rattle.ranges.specs.declared.setting_number.SettingNumber.{SettingNumber}
 use Rattle.table.specs.Table.{most_rules, most_states, no_state, rule_at}
 
 -- "an id repeats": "A repeated id faults the later rule"
@@ -43,17 +43,21 @@ states_good rulecount statecount states =
     leb 1 statecount && (leb statecount most_states && all_below (state_good rulecount states) statecount)
 
 -- "A refused table also names the first setting at fault in 01's order within the first rule at fault"
-abbrev pub rule_fault : Table → ℕ → AtFault
-rule_fault t i = record { place = i; setting = fault_in (tests_at t i) }
+abbrev pub in_rule : ℕ → Result ⊤ SettingNumber → Result ⊤ AtFault
+in_rule i (Ok x) = Ok x
+in_rule i (Err setting) = Err (at.Rule i setting)
 
--- "64 where the fault is in the states or the rule count"; they "name none"
+abbrev pub rule_fault : Table → ℕ → Result ⊤ AtFault
+rule_fault t i = in_rule i (fault_in (tests_at t i))
+
+-- the fault is in the states or the rule count; they "name none"
 abbrev pub table_fault : AtFault
-table_fault = record { place = most_rules; setting = none }
+table_fault = at.StatesOrRuleCount
 
 -- "rule count, then rules, then states"
-unfoldable pub fault_of : Table → Fault
+unfoldable pub fault_of : Table → Result ⊤ AtFault
 fault_of t =
     let i = first (faulty t) t.rulecount in
-    cond (ltb most_rules t.rulecount) (fault.At table_fault)
-    (cond (ltb i t.rulecount) (fault.At (rule_fault t i))
-    (cond (states_good t.rulecount t.statecount t.states) fault.Good (fault.At table_fault)))
+    cond (ltb most_rules t.rulecount) (Err table_fault)
+    (cond (ltb i t.rulecount) (rule_fault t i)
+    (cond (states_good t.rulecount t.statecount t.states) (Ok tt) (Err table_fault)))

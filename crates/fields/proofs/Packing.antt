@@ -11,7 +11,7 @@ use lib.Dec.{eqb, ltb, leb}
 use lib.ListN.{length, get_or}
 use lib.Pow.{high, low, shr-shr, pow-add}
 use Rattle.numbers.proofs.Lists.{and_both}
-use Rattle.table.specs.Settings.{of8, of16, of32, of64, of_kind, of_range, of_prefix, of_prefix6, is_unset}
+use Rattle.table.specs.Settings.{is_unset, value_or}
 use Rattle.table.specs.Table.{marked}
 use Rattle.table.specs.Marks.{link_unset, ip_unset, transport_unset, someip_unset, rate_unset, tracking_unset}
 use Rattle.table.specs.Words.{
@@ -34,6 +34,7 @@ use Rattle.table.specs.Words.{
   kind_code,
   action_from,
   kind_from,
+  setting_in,
   setting8_in,
   setting16_in,
   setting32_in,
@@ -55,7 +56,6 @@ use Rattle.fields.specs.Fields.{
   packed,
   Within,
   Laid,
-  value_or,
   bit_of,
   marks_of,
   kind_or,
@@ -76,35 +76,12 @@ use Rattle.table.specs.declared.Action.{Action}
 use Rattle.table.specs.declared.Action.TheVariants as action
 use Rattle.table.specs.declared.Kind.{Kind}
 use Rattle.table.specs.declared.Kind.TheVariants as kind
-use Rattle.table.specs.declared.Setting8.{Setting8}
-use Rattle.table.specs.declared.Setting8.TheVariants as set8
-use Rattle.table.specs.declared.Setting16.{Setting16}
-use Rattle.table.specs.declared.Setting16.TheVariants as set16
-use Rattle.table.specs.declared.Setting32.{Setting32}
-use Rattle.table.specs.declared.Setting32.TheVariants as set32
-use Rattle.table.specs.declared.Setting64.{Setting64}
-use Rattle.table.specs.declared.Setting64.TheVariants as set64
-use Rattle.table.specs.declared.KindSetting.{KindSetting}
-use Rattle.table.specs.declared.KindSetting.TheVariants as set_kind
-use Rattle.table.specs.declared.RangeSetting.{RangeSetting}
-use Rattle.table.specs.declared.RangeSetting.TheVariants as set_range
-use Rattle.table.specs.declared.PrefixSetting.{PrefixSetting}
-use Rattle.table.specs.declared.PrefixSetting.TheVariants as set_prefix
-use Rattle.table.specs.declared.Prefix6Setting.{Prefix6Setting}
-use Rattle.table.specs.declared.Prefix6Setting.TheVariants as set_prefix6
 use Rattle.table.specs.declared.Rule.{Rule}
 use Rattle.addresses.specs.declared.Wide.{Wide}
+use Rattle.table.specs.declared.Setting.{Setting}
+use Rattle.table.specs.declared.Setting.TheVariants.{Unset as unset, Set as set}
 
 -- ---- fields
-
--- a field below those that are laid
-pub laid_on :
-    {w x u v : ℕ} {fs : List (ℕ × ℕ)} (n : ℕ) → (w ≡ x * 2 ^ n + u) × (u < 2 ^ n) → u ≡ v → Laid fs x → Laid ((n, v) ∷ fs) w
-laid_on n h e l = record { is = h.0 ∙ rw (l.is, e); fit = (rw e at h.1, l.fit) }
-
--- no field
-pub laid_none : Laid [] 0
-laid_none = record { is = refl; fit = tt }
 
 -- where field k starts, and what it is
 abbrev start : List (ℕ × ℕ) → ℕ → ℕ
@@ -128,14 +105,6 @@ told : {fs : List (ℕ × ℕ)} {w : ℕ} → Laid fs w → (k : ℕ) → bits (
 told {fs} {w} h k = rw h.is (field_read fs k h.fit)
 
 -- ---- marks
-
--- no mark
-pub mark_none : 0 ≡ marks_of []
-mark_none = refl
-
--- a mark below those of the settings behind it
-pub mark_on : {w x m : ℕ} {b d : Bool} → (w ≡ x * 2 + bit_of b) × (bit_of b < 2) → b ≡ d → x ≡ m → w ≡ m * 2 + bit_of d
-mark_on h e f = h.0 ∙ rw (e, f)
 
 bit_small : (b : Bool) → bit_of b < 2 ^ 1
 bit_small true = omega arith
@@ -189,69 +158,18 @@ picked : {A : Type 0} (u : Bool) (x y : A) {n : ℕ} → n ≡ bit_of u → cond
 picked true x y e = ap (λ (m : ℕ). cond (eqb m 1) x y) e
 picked false x y e = ap (λ (m : ℕ). cond (eqb m 1) x y) e
 
--- a setting is read back where its mark and its value are
-module _ (w : List ℕ) (layer : ℕ) where
-  setting8_read :
-      (s : Setting8) (bit from : ℕ) → bits bit 1 (word w layer) ≡ bit_of (is_unset (of8 s))
-      → bits from 8 (word w layer) ≡ value_or 0 (of8 s) → setting8_in w layer bit from ≡ s
-  unfolding marked setting8_in
-  setting8_read set8.Unset bit from e f = picked true _ _ e
-  setting8_read (set8.Set v) bit from e f = picked false _ _ e ∙ ap set8.Set f
+-- so is a kind, which is that of code 0 where it is unset
+kind_read : (s : Setting Kind) → kind_from (kind_or s) ≡ value_or kind.Udp s
+kind_read unset = refl
+kind_read (set k) = kind_code_read k
 
-  setting16_read :
-      (s : Setting16) (bit from : ℕ) → bits bit 1 (word w layer) ≡ bit_of (is_unset (of16 s))
-      → bits from 16 (word w layer) ≡ value_or 0 (of16 s) → setting16_in w layer bit from ≡ s
-  unfolding marked setting16_in
-  setting16_read set16.Unset bit from e f = picked true _ _ e
-  setting16_read (set16.Set v) bit from e f = picked false _ _ e ∙ ap set16.Set f
-
-  setting32_read :
-      (s : Setting32) (bit from : ℕ) → bits bit 1 (word w layer) ≡ bit_of (is_unset (of32 s))
-      → bits from 32 (word w layer) ≡ value_or 0 (of32 s) → setting32_in w layer bit from ≡ s
-  unfolding marked setting32_in
-  setting32_read set32.Unset bit from e f = picked true _ _ e
-  setting32_read (set32.Set v) bit from e f = picked false _ _ e ∙ ap set32.Set f
-
-  setting64_read :
-      (s : Setting64) (bit k : ℕ) → bits bit 1 (word w layer) ≡ bit_of (is_unset (of64 s))
-      → word w k ≡ value_or 0 (of64 s) → setting64_in w layer bit k ≡ s
-  unfolding marked setting64_in
-  setting64_read set64.Unset bit k e f = picked true _ _ e
-  setting64_read (set64.Set v) bit k e f = picked false _ _ e ∙ ap set64.Set f
-
-  kind_read :
-      (s : KindSetting) (bit from : ℕ) → bits bit 1 (word w layer) ≡ bit_of (is_unset (of_kind s))
-      → bits from 8 (word w layer) ≡ kind_or s → kind_setting_in w layer bit from ≡ s
-  unfolding marked kind_setting_in
-  kind_read set_kind.Unset bit from e f = picked true _ _ e
-  kind_read (set_kind.Set k) bit from e f = picked false _ _ e ∙ ap set_kind.Set (ap kind_from f ∙ kind_code_read k)
-
-  range_read :
-      (s : RangeSetting) (bit k from : ℕ) → bits bit 1 (word w layer) ≡ bit_of (is_unset (of_range s))
-      → bits from 16 (word w k) ≡ (range_or s).low → bits (from + 16) 16 (word w k) ≡ (range_or s).high
-      → range_in w layer bit k from ≡ s
-  unfolding marked range_in
-  range_read set_range.Unset bit k from e f g = picked true _ _ e
-  range_read (set_range.Set v) bit k from e f g =
-      picked false _ _ e ∙ (λ i. set_range.Set (record { low = f i; high = g i }))
-
-  prefix_read :
-      (s : PrefixSetting) (bit from k at : ℕ) → bits bit 1 (word w layer) ≡ bit_of (is_unset (of_prefix s))
-      → bits from 8 (word w layer) ≡ (prefix_or s).length → bits at 32 (word w k) ≡ (prefix_or s).address
-      → prefix_in w layer bit from k at ≡ s
-  unfolding marked prefix_in
-  prefix_read set_prefix.Unset bit from k at e f g = picked true _ _ e
-  prefix_read (set_prefix.Set v) bit from k at e f g =
-      picked false _ _ e ∙ (λ i. set_prefix.Set (record { address = g i; length = f i }))
-
-  prefix6_read :
-      (s : Prefix6Setting) (bit from k : ℕ) → bits bit 1 (word w layer) ≡ bit_of (is_unset (of_prefix6 s))
-      → bits from 8 (word w layer) ≡ (prefix6_or s).length → word w k ≡ (prefix6_or s).address.high
-      → word w (k + 1) ≡ (prefix6_or s).address.low → prefix6_in w layer bit from k ≡ s
-  unfolding marked prefix6_in
-  prefix6_read set_prefix6.Unset bit from k e f g h = picked true _ _ e
-  prefix6_read (set_prefix6.Set v) bit from k e f g h =
-      picked false _ _ e ∙ (λ i. set_prefix6.Set (record { address = record { high = g i; low = h i }; length = f i }))
+-- a setting is read back where its mark and its value are, of whatever type the value is
+setting_read :
+    {A : Type 0} (w : List ℕ) (layer : ℕ) (other : A) (s : Setting A) (bit : ℕ) {v : A} → bits bit 1 (word w layer) ≡ bit_of (is_unset s)
+    → v ≡ value_or other s → setting_in w layer bit v ≡ s
+unfolding marked
+setting_read w layer other unset bit e f = picked true _ _ e
+setting_read w layer other (set v) bit e f = picked false _ _ e ∙ ap set f
 
 -- ---- rules
 
@@ -264,8 +182,8 @@ pub record HeldWide (a : Wide) (w : List ℕ) (k : ℕ) : Type 0 where
 pub record Held (r : Rule) (w : List ℕ) : Type 0 where
   pub rule : Laid (rule_fields r) (word w rule_word)
   pub link : Laid (link_fields r.link) (word w link_word)
-  pub destination : word w destination_word ≡ value_or 0 (of64 r.link.destination)
-  pub source : word w source_word ≡ value_or 0 (of64 r.link.source)
+  pub destination : word w destination_word ≡ value_or 0 r.link.destination
+  pub source : word w source_word ≡ value_or 0 r.link.source
   pub ip : Laid (ip_fields r.ipv4 r.ipv6) (word w ip_word)
   pub address : Laid (address_fields r.ipv4) (word w address_word)
   pub source6 : HeldWide (prefix6_or r.ipv6.source).address w source6_word
@@ -279,80 +197,91 @@ pub record Held (r : Rule) (w : List ℕ) : Type 0 where
 -- each layer is read back
 module _ (r : Rule) (w : List ℕ) (h : Held r w) where
   link_read : link_in w ≡ r.link
+  unfolding setting8_in setting16_in setting64_in
   link_read =
       let s = r.link in
       let m = mark_told (link_unset s) h.link in
       λ i. record {
-        destination = setting64_read w link_word s.destination 0 destination_word (m 0 refl) h.destination i;
-        source = setting64_read w link_word s.source 1 source_word (m 1 refl) h.source i;
-        vlan = setting16_read w link_word s.vlan 2 8 (m 2 refl) (told h.link 1) i;
-        priority = setting8_read w link_word s.priority 3 24 (m 3 refl) (told h.link 2) i;
-        ether = setting16_read w link_word s.ether 4 32 (m 4 refl) (told h.link 3) i;
-        socket = setting8_read w link_word s.socket 5 48 (m 5 refl) (told h.link 4) i;
+        destination = setting_read w link_word 0 s.destination 0 (m 0 refl) h.destination i;
+        source = setting_read w link_word 0 s.source 1 (m 1 refl) h.source i;
+        vlan = setting_read w link_word 0 s.vlan 2 (m 2 refl) (told h.link 1) i;
+        priority = setting_read w link_word 0 s.priority 3 (m 3 refl) (told h.link 2) i;
+        ether = setting_read w link_word 0 s.ether 4 (m 4 refl) (told h.link 3) i;
+        socket = setting_read w link_word 0 s.socket 5 (m 5 refl) (told h.link 4) i;
       }
 
   ipv4_read : ipv4_in w ≡ r.ipv4
+  unfolding setting8_in prefix_in
   ipv4_read =
       let s = r.ipv4 in
       let m = mark_told (ip_unset s r.ipv6) h.ip in
       λ i. record {
-        source = prefix_read w ip_word s.source 0 8 address_word 0 (m 0 refl) (told h.ip 1) (told h.address 0) i;
-        destination = prefix_read w ip_word s.destination 1 16 address_word 32 (m 1 refl) (told h.ip 2) (told h.address 1) i;
-        protocol = setting8_read w ip_word s.protocol 2 24 (m 2 refl) (told h.ip 3) i;
+        source = setting_read w ip_word (prefix_or unset) s.source 0 (m 0 refl) (λ j. record { address = told h.address 0 j; length = told h.ip 1 j }) i;
+        destination = setting_read w ip_word (prefix_or unset) s.destination 1 (m 1 refl) (λ j. record { address = told h.address 1 j; length = told h.ip 2 j }) i;
+        protocol = setting_read w ip_word 0 s.protocol 2 (m 2 refl) (told h.ip 3) i;
       }
 
   ipv6_read : ipv6_in w ≡ r.ipv6
+  unfolding setting8_in prefix6_in
   ipv6_read =
       let s = r.ipv6 in
       let m = mark_told (ip_unset r.ipv4 s) h.ip in
       let a = h.source6 in
       let b = h.destination6 in
       λ i. record {
-        source = prefix6_read w ip_word s.source 3 32 source6_word (m 3 refl) (told h.ip 4) a.high a.low i;
-        destination = prefix6_read w ip_word s.destination 4 40 destination6_word (m 4 refl) (told h.ip 5) b.high b.low i;
-        protocol = setting8_read w ip_word s.protocol 5 48 (m 5 refl) (told h.ip 6) i;
+        source =
+            setting_read w ip_word (prefix6_or unset) s.source 3 (m 3 refl)
+            (λ j. record { address = record { high = a.high j; low = a.low j }; length = told h.ip 4 j }) i;
+        destination =
+            setting_read w ip_word (prefix6_or unset) s.destination 4 (m 4 refl)
+            (λ j. record { address = record { high = b.high j; low = b.low j }; length = told h.ip 5 j }) i;
+        protocol = setting_read w ip_word 0 s.protocol 5 (m 5 refl) (told h.ip 6) i;
       }
 
   transport_read : transport_in w ≡ r.transport
+  unfolding kind_setting_in range_in
   transport_read =
       let s = r.transport in
       let m = mark_told (transport_unset s) h.transport in
       λ i. record {
-        kind = kind_read w transport_word s.kind 0 8 (m 0 refl) (told h.transport 1) i;
-        source = range_read w transport_word s.source 1 port_word 0 (m 1 refl) (told h.port 0) (told h.port 1) i;
-        destination = range_read w transport_word s.destination 2 port_word 32 (m 2 refl) (told h.port 2) (told h.port 3) i;
+        kind = setting_read w transport_word kind.Udp s.kind 0 (m 0 refl) (ap kind_from (told h.transport 1) ∙ kind_read s.kind) i;
+        source = setting_read w transport_word (range_or unset) s.source 1 (m 1 refl) (λ j. record { low = told h.port 0 j; high = told h.port 1 j }) i;
+        destination = setting_read w transport_word (range_or unset) s.destination 2 (m 2 refl) (λ j. record { low = told h.port 2 j; high = told h.port 3 j }) i;
       }
 
   someip_read : someip_in w ≡ r.someip
+  unfolding setting8_in setting16_in
   someip_read =
       let s = r.someip in
       let m = mark_told (someip_unset s) h.someip in
       λ i. record {
-        service = setting16_read w someip_word s.service 0 8 (m 0 refl) (told h.someip 1) i;
-        method = setting16_read w someip_word s.method 1 24 (m 1 refl) (told h.someip 2) i;
-        version = setting8_read w someip_word s.version 2 40 (m 2 refl) (told h.someip 3) i;
-        kind = setting8_read w someip_word s.kind 3 48 (m 3 refl) (told h.someip 4) i;
-        code = setting8_read w someip_word s.code 4 56 (m 4 refl) (told h.someip 5) i;
+        service = setting_read w someip_word 0 s.service 0 (m 0 refl) (told h.someip 1) i;
+        method = setting_read w someip_word 0 s.method 1 (m 1 refl) (told h.someip 2) i;
+        version = setting_read w someip_word 0 s.version 2 (m 2 refl) (told h.someip 3) i;
+        kind = setting_read w someip_word 0 s.kind 3 (m 3 refl) (told h.someip 4) i;
+        code = setting_read w someip_word 0 s.code 4 (m 4 refl) (told h.someip 5) i;
       }
 
   rate_read : rate_in w ≡ r.rate
+  unfolding setting16_in
   rate_read =
       let s = r.rate in
       let m = mark_told (rate_unset s) h.rate in
       λ i. record {
-        size = setting16_read w rate_word s.size 0 8 (m 0 refl) (told h.rate 1) i;
-        refill = setting16_read w rate_word s.refill 1 24 (m 1 refl) (told h.rate 2) i;
+        size = setting_read w rate_word 0 s.size 0 (m 0 refl) (told h.rate 1) i;
+        refill = setting_read w rate_word 0 s.refill 1 (m 1 refl) (told h.rate 2) i;
       }
 
   tracking_read : tracking_in w ≡ r.tracking
+  unfolding setting8_in setting32_in
   tracking_read =
       let s = r.tracking in
       let m = mark_told (tracking_unset s) h.tracking in
       λ i. record {
-        places = setting8_read w tracking_word s.places 0 8 (m 0 refl) (told h.tracking 1) i;
-        limit = setting32_read w tracking_word s.limit 1 16 (m 1 refl) (told h.tracking 2) i;
-        number0 = setting8_read w tracking_word s.number0 2 48 (m 2 refl) (told h.tracking 3) i;
-        number1 = setting8_read w tracking_word s.number1 3 56 (m 3 refl) (told h.tracking 4) i;
+        places = setting_read w tracking_word 0 s.places 0 (m 0 refl) (told h.tracking 1) i;
+        limit = setting_read w tracking_word 0 s.limit 1 (m 1 refl) (told h.tracking 2) i;
+        number0 = setting_read w tracking_word 0 s.number0 2 (m 2 refl) (told h.tracking 3) i;
+        number1 = setting_read w tracking_word 0 s.number1 3 (m 3 refl) (told h.tracking 4) i;
       }
 
   -- and the whole rule

@@ -2,10 +2,8 @@
 -- Assumes nothing.
 use Rattle.std.specs.Prelude.{ℕ, ◌-◌, ◌≡◌, List, ◌∷◌, ◌++◌, map}
 use Rattle.numbers.specs.Lists.{copies}
-use Rattle.table.specs.Settings.{of64}
 use Rattle.fields.specs.Fields.{
   packed,
-  value_or,
   prefix6_or,
   rule_fields,
   link_fields,
@@ -17,6 +15,7 @@ use Rattle.fields.specs.Fields.{
   rate_fields,
   tracking_fields,
 }
+use Rattle.table.specs.Settings.{value_or}
 use Rattle.table.specs.Words.{row_words, action_code}
 use Rattle.table.specs.declared.Rule.{Rule}
 use Rattle.table.specs.declared.State.{State}
@@ -36,8 +35,8 @@ unfoldable pub rule_words : Rule → List ℕ
 rule_words r =
     packed (rule_fields r)
     ∷ packed (link_fields r.link)
-    ∷ value_or 0 (of64 r.link.destination)
-    ∷ value_or 0 (of64 r.link.source)
+    ∷ value_or 0 r.link.destination
+    ∷ value_or 0 r.link.source
     ∷ packed (ip_fields r.ipv4 r.ipv6)
     ∷ packed (address_fields r.ipv4)
     ∷ (prefix6_or r.ipv6.source).address.high

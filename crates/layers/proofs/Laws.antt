@@ -29,10 +29,9 @@ use Rattle.payloads.specs.declared.Datagram.{Datagram}
 use Rattle.payloads.specs.declared.Transport.{Transport}
 use Rattle.payloads.specs.declared.Transport.TheVariants as transport
 use Rattle.payloads.specs.declared.Bundle.{Bundle}
-use Rattle.payloads.specs.declared.Someip.TheVariants as someip
 use Rattle.layers.specs.declared.Layers.{Layers}
-use Rattle.layers.specs.declared.Shown.{Shown}
-use Rattle.layers.specs.declared.Shown.TheVariants as shown
+use Rattle.layers.specs.declared.FrameRefusal.{FrameRefusal}
+use Rattle.std.specs.Prelude.{Some, Result, Ok, Err}
 
 -- ---- what a test that passed says of the lengths
 
@@ -56,7 +55,10 @@ link_inside s e =
     (λ q. ((short_fits s e).1 q, omega arith))
     (λ q. ((short_fits s e).0, tt))
 
-over : (s : List ℕ) (b : Bundle) (t : Transport) → someip_of s t ≡ someip.Present b → (u : Datagram) × (t ≡ transport.Udp u)
+-- what the code asks of one layer after the other
+pub ruleset each_inside = (short_fits, link_inside, ip_inside, transport_inside)
+
+over : (s : List ℕ) (b : Bundle) (t : Transport) → someip_of s t ≡ Some b → (u : Datagram) × (t ≡ transport.Udp u)
 unfolding someip_of
 over s b transport.Absent q = let z : ◌≡◌ {A = ℕ} 0 1 = cc in absurd (omega arith)
 over s b (transport.Tcp t) q = let z : ◌≡◌ {A = ℕ} 0 1 = cc in absurd (omega arith)
@@ -64,11 +66,11 @@ over s b (transport.Udp u) q = (u, refl)
 
 -- ---- what an answer that shows the layers says
 
-pub shows_is : (s : List ℕ) (l : Layers) → shown_of s ≡ shown.Shows l → (too_short s ≡ false) × (length s ≤ most) × (layers_of s ≡ l)
+pub shows_is : (s : List ℕ) (l : Layers) → shown_of s ≡ Ok l → (too_short s ≡ false) × (length s ≤ most) × (layers_of s ≡ l)
 unfolding shown_of
 shows_is s =
-    let P : Shown → Type 0 =
-    λ (r : Shown). (l : Layers) → r ≡ shown.Shows l → (too_short s ≡ false) × (length s ≤ most) × (layers_of s ≡ l) in
+    let P : Result Layers FrameRefusal → Type 0 =
+    λ (r : Result Layers FrameRefusal). (l : Layers) → r ≡ Ok l → (too_short s ≡ false) × (length s ≤ most) × (layers_of s ≡ l) in
     cond_both P (too_short s) _ _
     (λ h l q. let z : ◌≡◌ {A = ℕ} 0 1 = cc in absurd (omega arith))
     (λ h. cond_both P (too_long s) _ _
@@ -76,7 +78,7 @@ shows_is s =
     (λ k l q. (h, ltb-false most (length s) k, cc)))
 
 -- each layer is read in what the one below it leaves
-module _ (s : List ℕ) (l : Layers) (e : shown_of s ≡ shown.Shows l) where
+module _ (s : List ℕ) (l : Layers) (e : shown_of s ≡ Ok l) where
   pub link_is : l.link ≡ link_of s
   unfolding layers_of
   link_is = subst (λ (x : Layers). x.link ≡ link_of s) (shows_is s l e).2 refl
@@ -119,7 +121,7 @@ module _ (s : List ℕ) (l : Layers) (e : shown_of s ≡ shown.Shows l) where
   no_transport q = transport_is ∙ ap (transport_of s) q
 
   -- SOME/IP over UDP alone
-  pub someip_udp : (b : Bundle) → l.someip ≡ someip.Present b → (u : Datagram) × (l.transport ≡ transport.Udp u)
+  pub someip_udp : (b : Bundle) → l.someip ≡ Some b → (u : Datagram) × (l.transport ≡ transport.Udp u)
   someip_udp b q = over s b l.transport (sym someip_is ∙ q)
 
 -- of a layer that a caller has found
@@ -136,15 +138,15 @@ module _ (s : List ℕ) (l : Layers) (w : Inside s l) where
   pub datagram_inside : (u : Datagram) → l.transport ≡ transport.Udp u → DatagramInside s u
   datagram_inside u e = subst (TransportInside s) e w.transport
 
-  pub bundle_inside : (b : Bundle) → l.someip ≡ someip.Present b → BundleInside s b
+  pub bundle_inside : (b : Bundle) → l.someip ≡ Some b → BundleInside s b
   bundle_inside b e = subst (SomeipInside s) e w.someip
 
 -- ---- the refusals
 
 -- the number that is said: 0 where the layers are shown
-abbrev pub number_of : Shown → ℕ
-number_of (shown.Refused r) = refusal_number r
-number_of (shown.Shows l) = 0
+abbrev pub number_of : Result Layers FrameRefusal → ℕ
+number_of (Err r) = refusal_number r
+number_of (Ok l) = 0
 
 -- 1 and 2 exactly when 01 says
 pub number_is : (s : List ℕ) → number_of (shown_of s) ≡ cond (too_short s) 1 (cond (too_long s) 2 0)
@@ -153,7 +155,7 @@ number_is s = go (too_short s) (too_long s)
   where
     go :
         (a b : Bool)
-        → number_of (cond a (shown.Refused refusal.TooShort) (cond b (shown.Refused refusal.TooLong) (shown.Shows (layers_of s))))
+        → number_of (cond a (Err refusal.TooShort) (cond b (Err refusal.TooLong) (Ok (layers_of s))))
         ≡ cond a 1 (cond b 2 0)
     go true b = refl
     go false true = refl

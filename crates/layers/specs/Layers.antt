@@ -1,6 +1,6 @@
 -- 01, "What a frame shows": the whole frame, and refusals 1 and 2. s is the frame's bytes.
 -- Assumes nothing.
-use Rattle.std.specs.Prelude.{ℕ, List, Bool, cond, ◌&&◌, ◌||◌, length, ltb}
+use Rattle.std.specs.Prelude.{ℕ, List, Bool, cond, ◌&&◌, ◌||◌, Result, Ok, Err, length, ltb}
 use Rattle.packets.specs.Link.{tagged_bytes, tagged, link_of}
 use Rattle.packets.specs.Ip.{ip_of}
 use Rattle.payloads.specs.Transport.{transport_of}
@@ -8,8 +8,6 @@ use Rattle.payloads.specs.Someip.{someip_of}
 use Rattle.layers.specs.declared.Layers.{Layers}
 use Rattle.layers.specs.declared.FrameRefusal.{FrameRefusal}
 use Rattle.layers.specs.declared.FrameRefusal.TheVariants as refusal
-use Rattle.layers.specs.declared.Shown.{Shown}
-use Rattle.layers.specs.declared.Shown.TheVariants as shown
 
 -- the layers, each in what the one below it leaves
 unfoldable pub layers_of : List ℕ → Layers
@@ -40,7 +38,7 @@ refusal_number refusal.TooShort = 1
 refusal_number refusal.TooLong = 2
 
 -- the answer: refusal 1, else refusal 2, else what the frame shows
-unfoldable pub shown_of : List ℕ → Shown
+unfoldable pub shown_of : List ℕ → Result Layers FrameRefusal
 shown_of s =
-    cond (too_short s) (shown.Refused refusal.TooShort)
-    (cond (too_long s) (shown.Refused refusal.TooLong) (shown.Shows (layers_of s)))
+    cond (too_short s) (Err refusal.TooShort)
+    (cond (too_long s) (Err refusal.TooLong) (Ok (layers_of s)))

@@ -9,7 +9,7 @@ use packets::link_layer::{TAGGED_BYTES, is_tagged, read_link};
 use packets::{Ip, Link};
 use payloads::someip_layer::read_someip;
 use payloads::transport_layer::read_transport;
-use payloads::{Someip, Transport};
+use payloads::{Bundle, Transport};
 
 // The bytes of a frame, without its check sequence.
 const LEAST: usize = 14;
@@ -21,7 +21,7 @@ pub struct Layers {
     pub link: Link,
     pub ip: Ip,
     pub transport: Transport,
-    pub someip: Someip,
+    pub someip: Option<Bundle>,
 }
 
 // Why a frame is not read.
@@ -46,12 +46,7 @@ impl FrameRefusal {
     }
 }
 
-#[derive(Clone, Copy)]
-pub enum Shown {
-    Refused(FrameRefusal),
-    Shows(Layers),
-}
-
+#[tactic(auto, using(crate::proofs::Laws::each_inside), unfolding(crate::specs::Layers::layers_of))]
 fn read_layers(s: &[u8]) -> Layers
     requires { too_short s.now ≡ false }
     ensures { result ≡ layers_of s.now }
@@ -68,40 +63,35 @@ fn read_layers(s: &[u8]) -> Layers
     }
 }
 
+#[tactic(auto, unfolding(crate::specs::Layers::too_short))]
 fn is_short(s: &[u8]) -> bool
     ensures { result ≡ too_short s.now }
 {
-    if s.len() < LEAST {
-        return true;
-    }
-    if is_tagged(s) {
-        return s.len() < TAGGED_BYTES;
-    }
-    false
+    s.len() < LEAST || (is_tagged(s) && s.len() < TAGGED_BYTES)
 }
 
 /// What a frame shows, for any product. Takes the frame's bytes, without their check sequence, and asks nothing of them. Answers a refusal
-/// or the layers, `Absent` for each that the frame lacks; it keeps nothing and changes nothing. Link and IP are types of
+/// or the layers, `Absent` or `None` for each that the frame lacks; it keeps nothing and changes nothing. Link and IP are types of
 /// `packets`, transport and SOME/IP of `payloads`, the words of an IPv6 address of `addresses`, so a product names those too. Every offset in the answer counts from the frame's start and lies, with its length, inside the frame
-/// (specs/Inside here, in `packets` and in `payloads`; laws `shows-inside`, `packet-inside` and its like of proofs/Laws). Of an IPv6 packet whose extension headers cannot be followed the chain says `Fails`, and no transport is shown.
+/// (specs/Inside here, in `packets` and in `payloads`; laws `shows-inside`, `packet-inside` and its like of proofs/Laws). Of an IPv6 packet whose extension headers cannot be followed the chain is `None`, and no transport is shown.
 /// SOME/IP is shown as its bundle, whose messages `payloads::someip_layer::message_at` reads one behind the other.
 /// How many hops a packet may still make, 0 where there is none:
 ///
-///     let Shown::Shows(shown) = layers::read(frame) else { return 0; };
-///     let ip = shown.ip;
-///     match ip {
+///     let Ok(shown) = layers::read(frame) else { return 0; };
+///     match shown.ip {
 ///         packets::Ip::Absent => 0,
 ///         packets::Ip::V4(packet) => frame[packet.header + 8],
 ///         packets::Ip::V6(packet) => frame[packet.header + 7],
 ///     }
-pub fn read(frame: &[u8]) -> Shown
+#[tactic(auto, unfolding(crate::specs::Layers::shown_of))]
+pub fn read(frame: &[u8]) -> Result<Layers, FrameRefusal>
     ensures { result ≡ shown_of frame.now }
 {
     if is_short(frame) {
-        return Shown::Refused(FrameRefusal::TooShort);
+        return Err(FrameRefusal::TooShort);
     }
     if MOST < frame.len() {
-        return Shown::Refused(FrameRefusal::TooLong);
+        return Err(FrameRefusal::TooLong);
     }
-    Shown::Shows(read_layers(frame))
+    Ok(read_layers(frame))
 }

@@ -19,32 +19,20 @@ use Rattle.payloads.specs.declared.Transport.{Transport}
 use Rattle.payloads.specs.declared.Transport.TheVariants as transport
 use Rattle.payloads.specs.declared.Message.{Message}
 use Rattle.payloads.specs.declared.Bundle.{Bundle}
-use Rattle.payloads.specs.declared.Someip.{Someip}
-use Rattle.payloads.specs.declared.Someip.TheVariants as someip
+use Rattle.std.specs.Prelude.{Option, Some, None}
 use Rattle.payloads.specs.Someip.{message_at, cut, messages_in, messages_of}
 use Rattle.payloads.specs.Inside.{CutInside}
 use Rattle.payloads.proofs.Cutting.{Walked, walked, cut_nothing}
 use Rattle.table.specs.declared.Kind.{Kind}
 use Rattle.table.specs.declared.Kind.TheVariants as kind
-use Rattle.table.specs.declared.Ipv4Settings.{Ipv4Settings}
-use Rattle.table.specs.declared.Ipv6Settings.{Ipv6Settings}
 use Rattle.table.specs.declared.TransportSettings.{TransportSettings}
 use Rattle.table.specs.declared.SomeipSettings.{SomeipSettings}
-use Rattle.table.specs.Settings.{
-  of8,
-  of_kind,
-  of_range,
-  of_prefix,
-  of_prefix6,
-  agrees,
-  in_range,
-  in_prefix,
-  in_prefix6,
-  same_kind,
-}
+use Rattle.table.specs.Settings.{agrees, in_range, in_prefix, in_prefix6, same_kind}
 use Rattle.table.proofs.SettingLaws.{unset_agrees}
 use Rattle.table.specs.Marks.{ipv4_unset, ipv6_unset, ip_unset, transport_unset, someip_unset}
 use Rattle.matching.specs.Matching.{ipv4_tests, number_agrees, ipv6_tests, ip_matches, ports_agree, transport_matches, message_agrees, messages_agree, someip_matches}
+use Rattle.addresses.specs.declared.Wide.{Wide}
+use Rattle.table.specs.declared.IpSettings.{IpSettings}
 
 -- each test of the first list that passes has its partner pass
 abbrev pub Partners : List Bool → List Bool → Type 0
@@ -75,7 +63,7 @@ absent k = sym (or-false (every k))
 
 -- ---- IP, in the words of the code: a and b are what it found of the settings of either kind
 
-module _ (r : Ipv4Settings) (z : Ipv6Settings) (x : Ip) where
+module _ (r : IpSettings ℕ) (z : IpSettings Wide) (x : Ip) where
   pub ip_absent :
       {a b : Bool} → x ≡ ip.Absent → a ≡ every (ipv4_unset r) → b ≡ every (ipv6_unset z) → (a && b) ≡ ip_matches r z x
   unfolding ip_matches
@@ -87,10 +75,10 @@ module _ (r : Ipv4Settings) (z : Ipv6Settings) (x : Ip) where
       rw e
       (sym (every_append (ipv4_tests r p) (ipv6_unset z))
       ∙ present (ip_unset r z) (ipv4_tests r p ++ ipv6_unset z) (
-        unset_agrees in_prefix (of_prefix r.source) p.source,
+        unset_agrees in_prefix r.source p.source,
         (
-          unset_agrees in_prefix (of_prefix r.destination) p.destination,
-          (unset_agrees eqb (of8 r.protocol) p.protocol, (λ h. h, (λ h. h, (λ h. h, tt)))),
+          unset_agrees in_prefix r.destination p.destination,
+          (unset_agrees eqb r.protocol p.protocol, (λ h. h, (λ h. h, (λ h. h, tt)))),
         ),
       ))
 
@@ -106,10 +94,10 @@ module _ (r : Ipv4Settings) (z : Ipv6Settings) (x : Ip) where
           (
             λ h. h,
             (
-              unset_agrees in_prefix6 (of_prefix6 z.source) p.source,
+              unset_agrees in_prefix6 z.source p.source,
               (
-                unset_agrees in_prefix6 (of_prefix6 z.destination) p.destination,
-                (unset_agrees number_agrees (of8 z.protocol) p.chain, tt),
+                unset_agrees in_prefix6 z.destination p.destination,
+                (unset_agrees number_agrees z.protocol p.chain, tt),
               ),
             ),
           ),
@@ -125,17 +113,17 @@ module _ (r : Ipv4Settings) (z : Ipv6Settings) (x : Ip) where
 
   -- none stands, and those of this kind tell, as they were read
   pub own4 :
-      {b c : Bool} {s : Ipv4Settings} (p : Packet) → x ≡ ip.V4 p → b ≡ every (ipv6_unset z) → not b ≡ false → s ≡ r
+      {b c : Bool} {s : IpSettings ℕ} (p : Packet) → x ≡ ip.V4 p → b ≡ every (ipv6_unset z) → not b ≡ false → s ≡ r
       → c ≡ every (ipv4_tests s p) → c ≡ ip_matches r z x
   own4 p e f h k g =
-      g ∙ ap (λ (y : Ipv4Settings). every (ipv4_tests y p)) k ∙ sym (and-true (every (ipv4_tests r p)))
+      g ∙ ap (λ (y : IpSettings ℕ). every (ipv4_tests y p)) k ∙ sym (and-true (every (ipv4_tests r p)))
       ∙ ap (λ (t : Bool). every (ipv4_tests r p) && t) (sym (sym f ∙ not-false _ h)) ∙ ip_v4 p e
 
   pub own6 :
-      {b c : Bool} {s : Ipv6Settings} (p : Packet6) → x ≡ ip.V6 p → b ≡ every (ipv4_unset r) → not b ≡ false → s ≡ z
+      {b c : Bool} {s : IpSettings Wide} (p : Packet6) → x ≡ ip.V6 p → b ≡ every (ipv4_unset r) → not b ≡ false → s ≡ z
       → c ≡ every (ipv6_tests s p) → c ≡ ip_matches r z x
   own6 p e f h k g =
-      g ∙ ap (λ (y : Ipv6Settings). every (ipv6_tests y p)) k ∙ ap (λ (t : Bool). t && every (ipv6_tests z p)) (sym (sym f ∙ not-false _ h))
+      g ∙ ap (λ (y : IpSettings Wide). every (ipv6_tests y p)) k ∙ ap (λ (t : Bool). t && every (ipv6_tests z p)) (sym (sym f ∙ not-false _ h))
       ∙ ip_v6 p e
 
 pub transport_absent : (r : TransportSettings) (x : Transport) → x ≡ transport.Absent → every (transport_unset r) ≡ transport_matches r x
@@ -145,12 +133,12 @@ transport_absent r x e = rw e (absent (transport_unset r))
 ports_present : (r : TransportSettings) (k : Kind) (source destination : ℕ) → ports_agree r k source destination ≡ (every (transport_unset r) || ports_agree r k source destination)
 ports_present r k source destination =
     present (transport_unset r)
-    (agrees same_kind (of_kind r.kind) k
-    ∷ agrees in_range (of_range r.source) source
-    ∷ agrees in_range (of_range r.destination) destination
+    (agrees same_kind r.kind k
+    ∷ agrees in_range r.source source
+    ∷ agrees in_range r.destination destination
     ∷ []) (
-      unset_agrees same_kind (of_kind r.kind) k,
-      (unset_agrees in_range (of_range r.source) source, (unset_agrees in_range (of_range r.destination) destination, tt)),
+      unset_agrees same_kind r.kind k,
+      (unset_agrees in_range r.source source, (unset_agrees in_range r.destination destination, tt)),
     )
 
 pub transport_tcp : (r : TransportSettings) (x : Transport) (g : Segment) → x ≡ transport.Tcp g → ports_agree r kind.Tcp g.source g.destination ≡ transport_matches r x
@@ -163,7 +151,7 @@ transport_udp r x u e = rw e (ports_present r kind.Udp u.source u.destination)
 
 -- ---- SOME/IP: a is what the code found of its marks, c of its messages
 
-module _ (r : SomeipSettings) (s : List ℕ) (x : Someip) where
+module _ (r : SomeipSettings) (s : List ℕ) (x : Option Bundle) where
   pub someip_unset_lem : {a : Bool} → a ≡ every (someip_unset r) → a ≡ true → true ≡ someip_matches r s x
   unfolding someip_matches
   someip_unset_lem e h = let q : every (someip_unset r) ≡ true = sym e ∙ h in rw q refl
@@ -172,12 +160,12 @@ module _ (r : SomeipSettings) (s : List ℕ) (x : Someip) where
   unfolding someip_matches
   someip_set e h k = let q : every (someip_unset r) ≡ false = sym e ∙ h in rw q k
 
-  pub someip_lacks : {a : Bool} → a ≡ every (someip_unset r) → a ≡ false → x ≡ someip.Absent → false ≡ someip_matches r s x
-  someip_lacks e h k = someip_set e h (ap (λ (y : Someip). messages_agree r (messages_of s y)) (sym k))
+  pub someip_lacks : {a : Bool} → a ≡ every (someip_unset r) → a ≡ false → x ≡ None → false ≡ someip_matches r s x
+  someip_lacks e h k = someip_set e h (ap (λ (y : Option Bundle). messages_agree r (messages_of s y)) (sym k))
 
   pub someip_tells :
-      {a c : Bool} {z : SomeipSettings} (b : Bundle) → a ≡ every (someip_unset r) → a ≡ false → x ≡ someip.Present b → z ≡ r
-      → c ≡ messages_agree z (messages_of s (someip.Present b)) → c ≡ someip_matches r s x
+      {a c : Bool} {z : SomeipSettings} (b : Bundle) → a ≡ every (someip_unset r) → a ≡ false → x ≡ Some b → z ≡ r
+      → c ≡ messages_agree z (messages_of s (Some b)) → c ≡ someip_matches r s x
   someip_tells b e h k q g = someip_set e h (rw (k, ← q) g)
 
 -- every message of those still to be read agrees

@@ -1,18 +1,30 @@
 -- Laws of the definitions of specs/: what a caller knows of them without opening them.
 -- Assumes nothing.
-use Prim.Native.Nat.{ℕ, ◌+◌, ◌-◌, ◌≤◌}
+use Prim.Native.Nat.{ℕ, zero, suc, ◌+◌, ◌-◌, ◌≤◌}
 use mathlib.Core.Path.{◌≡◌, refl}
 use mathlib.Core.List.{List}
 use mathlib.Core.Bool.{true}
 use native.Mathlib.Omega.{arith}
 use lib.ListN.{length}
+use lib.Dec.{eqb, leb}
 use borrow.Author.Tests.{leb-true}
 use Rattle.numbers.specs.Bytes.{byte}
 use Rattle.numbers.proofs.Lists.{cond_both, every_at}
 use Rattle.packets.specs.Ip.{ipv4_bytes, least_words, header_words, header_length, total_length, ipv4_tests, ipv4_here, packet_at, ip_of}
-use Rattle.packets.specs.Ipv6.{ipv6_bytes, next_header_at, payload_length, ipv6_here, most_followed, packet6_at}
-use Rattle.packets.specs.Inside.{IpInside}
-use Rattle.packets.proofs.OnIpv6.{ipv6_fits, chain_inside}
+use Rattle.packets.specs.Ipv6.{
+  next_header_at,
+  ipv6_bytes,
+  payload_length,
+  ipv6_tests,
+  ipv6_here,
+  fragment,
+  is_extension,
+  own_length,
+  chain_of,
+  most_followed,
+  packet6_at,
+}
+use Rattle.packets.specs.Inside.{ChainInside, IpInside}
 
 -- ---- what a test that passed says of the lengths
 
@@ -38,7 +50,32 @@ pub ipv4_room :
     → (at + ipv4_bytes ≤ length s) × (header_length s at ≤ total_length s at)
 ipv4_room s ether at e = let f = ipv4_fits s ether at e in (f.rest, f.header)
 
+-- what packet6_at asks
+pub ipv6_fits : (s : List ℕ) (ether at : ℕ) → ipv6_here s ether at ≡ true → at + ipv6_bytes + payload_length s at ≤ length s
+unfolding ipv6_here ipv6_tests
+ipv6_fits s ether at e =
+    let ts = ipv6_tests s ether at in
+    let h : ipv6_bytes ≤ length s - at = leb-true _ _ (every_at ts 1 e) in
+    let l : payload_length s at ≤ length s - at - ipv6_bytes = leb-true _ _ (every_at ts 3 e) in
+    omega arith
+
 -- ---- IP lies within the frame
+
+-- what follows a chain lies where the chain lies
+pub chain_inside : (left : ℕ) (s : List ℕ) (at len n : ℕ) → at + len ≤ length s → ChainInside s (chain_of left s at len n)
+unfolding chain_of
+chain_inside zero s at len n h =
+    cond_both (ChainInside s) (eqb n fragment) _ _ (λ q. tt)
+    (λ q. cond_both (ChainInside s) (is_extension n) _ _ (λ k. tt) (λ k. h))
+chain_inside (suc left) s at len n h =
+    cond_both (ChainInside s) (eqb n fragment) _ _ (λ q. tt)
+    (λ q. cond_both (ChainInside s) (is_extension n) _ _
+    (λ k. cond_both (ChainInside s) (leb (own_length s at) len) _ _
+    (λ t.
+    let l : own_length s at ≤ len = leb-true _ _ t in
+    chain_inside left s (at + own_length s at) (len - own_length s at) (byte s (at + 0)) (omega arith))
+    (λ t. tt))
+    (λ k. h))
 
 pub ip_inside : (s : List ℕ) (ether at : ℕ) → IpInside s (ip_of s ether at)
 unfolding ip_of packet_at packet6_at

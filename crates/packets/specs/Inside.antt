@@ -1,22 +1,20 @@
 -- What a reader of link and IP may count on: every offset and length lies within the frame.
 -- Assumes nothing.
-use Rattle.std.specs.Prelude.{ℕ, ◌+◌, ◌≤◌, ◌<◌, ◌≡◌, List, length}
+use Rattle.std.specs.Prelude.{ℕ, ◌+◌, ◌≤◌, ◌<◌, ◌≡◌, List, Option, None, Some, length}
 use Rattle.packets.specs.Link.{low12}
 use Rattle.packets.specs.Ip.{ipv4_bytes}
 use Rattle.packets.specs.Ipv6.{ipv6_bytes}
 use Rattle.packets.specs.declared.Tag.{Tag}
-use Rattle.packets.specs.declared.Tag.TheVariants as tag
 use Rattle.packets.specs.declared.Packet.{Packet}
-use Rattle.packets.specs.declared.Chain.{Chain}
-use Rattle.packets.specs.declared.Chain.TheVariants as chain
+use Rattle.packets.specs.declared.Upper.{Upper}
 use Rattle.packets.specs.declared.Packet6.{Packet6}
 use Rattle.packets.specs.declared.Ip.{Ip}
 use Rattle.packets.specs.declared.Ip.TheVariants as ip
 
 -- a VLAN id has 12 bits
-abbrev pub TagInside : Tag → Type 0
-TagInside tag.Untagged = Unit {0}
-TagInside (tag.Tagged priority vlan) = vlan < low12
+abbrev pub TagInside : Option Tag → Type 0
+TagInside None = Unit {0}
+TagInside (Some t) = t.vlan < low12
 
 -- a header of at least 20 bytes, the payload straight behind it
 pub record PacketInside (s : List ℕ) (p : Packet) : Type 0 where
@@ -25,9 +23,9 @@ pub record PacketInside (s : List ℕ) (p : Packet) : Type 0 where
   pub payload : p.payload + p.plen ≤ length s
 
 -- what follows a chain that ends
-abbrev pub ChainInside : List ℕ → Chain → Type 0
-ChainInside s chain.Fails = Unit {0}
-ChainInside s (chain.Ends n at len) = at + len ≤ length s
+abbrev pub ChainInside : List ℕ → Option Upper → Type 0
+ChainInside s None = Unit {0}
+ChainInside s (Some u) = u.payload + u.plen ≤ length s
 
 -- a header of 40 bytes
 pub record Packet6Inside (s : List ℕ) (p : Packet6) : Type 0 where

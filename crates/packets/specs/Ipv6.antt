@@ -1,11 +1,10 @@
 -- Change request 2/12, IPv6: the RFC 8200 header in the rest of the frame s that starts at `at`, and its chain of extension headers.
 -- Assumes nothing.
-use Rattle.std.specs.Prelude.{ℕ, zero, suc, ◌+◌, ◌-◌, ◌*◌, ◌/◌, List, [], ◌∷◌, Bool, cond, ◌||◌, length, leb, eqb}
+use Rattle.std.specs.Prelude.{ℕ, zero, suc, ◌+◌, ◌-◌, ◌*◌, ◌/◌, List, [], ◌∷◌, Bool, cond, ◌||◌, Option, None, Some, length, leb, eqb}
 use Rattle.numbers.specs.Bytes.{byte, be16}
 use Rattle.numbers.specs.Lists.{every}
 use Rattle.addresses.specs.Addresses.{wide_at}
-use Rattle.packets.specs.declared.Chain.{Chain}
-use Rattle.packets.specs.declared.Chain.TheVariants as chain
+use Rattle.packets.specs.declared.Upper.{Upper}
 use Rattle.packets.specs.declared.Packet6.{Packet6}
 
 -- RFC 8200, section 3, from the header's start: the version in byte 0, then these
@@ -71,19 +70,20 @@ abbrev pub own_length : List ℕ → ℕ → ℕ
 own_length s at = 8 + 8 * byte s (at + length_at)
 
 -- what a number says of the len bytes at `at`: "header 44 fails" the chain, an extension header is followed, and any other number ends it there
-abbrev pub named : ℕ → ℕ → ℕ → Chain → Chain
-named n at len followed = cond (eqb n fragment) chain.Fails (cond (is_extension n) followed (chain.Ends n at len))
+abbrev pub named : ℕ → ℕ → ℕ → Option Upper → Option Upper
+named n at len followed =
+    cond (eqb n fragment) None (cond (is_extension n) followed (Some (record { number = n; payload = at; plen = len })))
 
 -- The chain from the number n on, in the len bytes at `at`, with so many headers left to follow.
 -- "a ninth, a cut one or header 44 fails it": a header is cut where fewer bytes are left than its own length,
 -- which is never below eight. In RFC 8200's words its Next Header field names the next one, and its Hdr Ext Len counts units of eight without the first.
-unfoldable pub chain_of : ℕ → List ℕ → ℕ → ℕ → ℕ → Chain
-chain_of zero s at len n = named n at len chain.Fails
+unfoldable pub chain_of : ℕ → List ℕ → ℕ → ℕ → ℕ → Option Upper
+chain_of zero s at len n = named n at len None
 chain_of (suc left) s at len n =
     named n at len
     (cond (leb (own_length s at) len)
     (chain_of left s (at + own_length s at) (len - own_length s at) (byte s (at + next_at)))
-    chain.Fails)
+    None)
 
 -- "At most eight are followed"
 abbrev pub most_followed : ℕ

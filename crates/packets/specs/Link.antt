@@ -1,9 +1,8 @@
 -- 01, "What a frame shows", Link. s is the frame's bytes, and every offset counts from the frame's start.
 -- Assumes nothing.
-use Rattle.std.specs.Prelude.{ℕ, ◌/◌, ◌%◌, List, Bool, cond, eqb}
+use Rattle.std.specs.Prelude.{ℕ, ◌/◌, ◌%◌, List, Bool, cond, None, Some, eqb}
 use Rattle.numbers.specs.Bytes.{be16, be48}
 use Rattle.packets.specs.declared.Tag.{Tag}
-use Rattle.packets.specs.declared.Tag.TheVariants as tag
 use Rattle.packets.specs.declared.Link.{Link}
 
 -- "destination MAC 0-5, source MAC 6-11", the ether type at 12; where the frame is tagged, the tag at 14 and the ether type at 16
@@ -45,7 +44,7 @@ tagged s = eqb (be16 s ether_at) tag_type
 
 -- "bytes 14-15 give priority (top 3 bits) and VLAN id (low 12)"
 unfoldable pub tag_of : List ℕ → Tag
-tag_of s = tag.Tagged (be16 s tag_at / top3) (be16 s tag_at % low12)
+tag_of s = record { priority = be16 s tag_at / top3; vlan = be16 s tag_at % low12 }
 
 -- tagged, "bytes 16-17 the ether type, and the rest starts at 18. Otherwise bytes 12-13 are the ether type and the rest starts at 14"
 unfoldable pub link_of : List ℕ → Link
@@ -54,14 +53,14 @@ link_of s =
     (record {
       destination = be48 s destination_at;
       source = be48 s source_at;
-      tag = tag_of s;
+      tag = Some (tag_of s);
       ether = be16 s tagged_ether_at;
       hlen = tagged_bytes;
     })
     (record {
       destination = be48 s destination_at;
       source = be48 s source_at;
-      tag = tag.Untagged;
+      tag = None;
       ether = be16 s ether_at;
       hlen = link_bytes;
     })

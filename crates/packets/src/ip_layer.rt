@@ -4,7 +4,7 @@ ghost use Rattle.packets.specs.Ip.{ipv4_bytes, header_length, total_length, ipv4
 
 use crate::ipv6_layer::*;
 use crate::*;
-use numbers::{count8, count16, ones_sum, read16, read32};
+use numbers::{ones_sum, read16, read32};
 
 // From the header's start. Byte 0 has the version in its high half and the header words in its low half.
 const TOTAL_AT: usize = 2;
@@ -27,42 +27,33 @@ const VERSION: usize = 4;
 
 const WHOLE_SUM: u16 = 0xFFFF;
 
+#[tactic(auto, unfolding(crate::specs::Ip::ipv4_here, crate::specs::Ip::ipv4_tests))]
 fn ipv4_here(s: &[u8], ether: u16, at: usize) -> bool
     requires { at ≤ length s.now }
     ensures { result ≡ ipv4_here s.now ether at }
 {
-    if ether != IPV4_TYPE {
-        return false;
-    }
     let rest = s.len() - at;
-    if rest < IPV4_BYTES {
+    if ether != IPV4_TYPE || rest < IPV4_BYTES {
         return false;
     }
-    let first = count8(s[at]);
-    if first / 16 != VERSION {
-        return false;
-    }
+    let first = usize::from(s[at]);
     let words = first % 16;
-    if words < LEAST_WORDS {
-        return false;
-    }
-    let total = count16(read16(s, at + TOTAL_AT));
-    if total < 4 * words {
-        return false;
-    }
-    if rest < total {
-        return false;
-    }
-    ones_sum(s, at, 2 * words) == WHOLE_SUM
+    let total = usize::from(read16(s, at + TOTAL_AT));
+    first / 16 == VERSION
+        && LEAST_WORDS <= words
+        && 4 * words <= total
+        && total <= rest
+        && ones_sum(s, at, 2 * words) == WHOLE_SUM
 }
 
+#[tactic(auto, unfolding(crate::specs::Ip::packet_at))]
 fn packet_at(s: &[u8], at: usize) -> Packet
     requires header { at + ipv4_bytes ≤ length s.now }
     requires total { header_length s.now at ≤ total_length s.now at }
     ensures { result ≡ packet_at s.now at }
 {
-    let hlen = 4 * (count8(s[at]) % 16);
-    let total = count16(read16(s, at + TOTAL_AT));
+    let hlen = 4 * (usize::from(s[at]) % 16);
+    let total = usize::from(read16(s, at + TOTAL_AT));
     Packet {
         source: read32(s, at + SOURCE_AT),
         destination: read32(s, at + DESTINATION_AT),
@@ -74,6 +65,7 @@ fn packet_at(s: &[u8], at: usize) -> Packet
     }
 }
 
+#[tactic(auto, using(crate::proofs::Laws::ipv4_room, crate::proofs::Laws::ipv6_fits), unfolding(crate::specs::Ip::ip_of))]
 pub fn read_ip(s: &[u8], ether: u16, at: usize) -> Ip
     requires { at ≤ length s.now }
     ensures { result ≡ ip_of s.now ether at }

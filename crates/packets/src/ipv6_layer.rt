@@ -4,7 +4,7 @@ ghost use Rattle.packets.specs.Ipv6.{ipv6_bytes, payload_length, ipv6_here, is_e
 
 use crate::*;
 use addresses::read128;
-use numbers::{count8, count16, read16};
+use numbers::read16;
 
 // From the header's start. Byte 0 has the version in its high half.
 const PAYLOAD_LENGTH_AT: usize = 4;
@@ -38,62 +38,57 @@ const UNIT: usize = 8;
 
 const MOST_FOLLOWED: usize = 8;
 
+#[tactic(auto, unfolding(crate::specs::Ipv6::ipv6_here, crate::specs::Ipv6::ipv6_tests))]
 pub(crate) fn ipv6_here(s: &[u8], ether: u16, at: usize) -> bool
     requires { at ≤ length s.now }
     ensures { result ≡ ipv6_here s.now ether at }
 {
-    if ether != IPV6_TYPE {
-        return false;
-    }
     let rest = s.len() - at;
-    if rest < IPV6_BYTES {
-        return false;
-    }
-    if s[at] / 16 != VERSION {
-        return false;
-    }
-    count16(read16(s, at + PAYLOAD_LENGTH_AT)) <= rest - IPV6_BYTES
+    ether == IPV6_TYPE
+        && IPV6_BYTES <= rest
+        && s[at] / 16 == VERSION
+        && usize::from(read16(s, at + PAYLOAD_LENGTH_AT)) <= rest - IPV6_BYTES
 }
 
+#[tactic(auto, unfolding(crate::specs::Ipv6::is_extension))]
 fn is_extension(n: u8) -> bool
     ensures { result ≡ is_extension n }
 {
-    (n == HOP_BY_HOP) | ((n == ROUTING) | (n == DESTINATION_OPTIONS))
+    matches!(n, HOP_BY_HOP | ROUTING | DESTINATION_OPTIONS)
 }
 
 // The chain from a number on, whose header is the first of len bytes at `at`. Headers left to follow fall.
-fn follow_chain(s: &[u8], at: usize, len: usize, number: u8, left: usize) -> Chain
+#[tactic(auto, unfolding(crate::specs::Ipv6::chain_of))]
+fn follow_chain(s: &[u8], at: usize, len: usize, number: u8, left: usize) -> Option<Upper>
     requires { at + len ≤ length s.now }
     ensures { result ≡ chain_of left s.now at len number }
 {
     if number == FRAGMENT {
-        return Chain::Fails;
+        return None;
     }
     if !is_extension(number) {
-        return Chain::Ends {
+        return Some(Upper {
             number,
             payload: at,
             plen: len,
-        };
+        });
     }
-    if left == 0 {
-        return Chain::Fails;
+    if left == 0 || len < UNIT {
+        return None;
     }
-    if len < UNIT {
-        return Chain::Fails;
-    }
-    let own = UNIT + UNIT * count8(s[at + LENGTH_AT]);
+    let own = UNIT + UNIT * usize::from(s[at + LENGTH_AT]);
     if len < own {
-        return Chain::Fails;
+        return None;
     }
     follow_chain(s, at + own, len - own, s[at], left - 1)
 }
 
+#[tactic(auto, unfolding(crate::specs::Ipv6::packet6_at))]
 pub(crate) fn packet6_at(s: &[u8], at: usize) -> Packet6
     requires { at + ipv6_bytes + payload_length s.now at ≤ length s.now }
     ensures { result ≡ packet6_at s.now at }
 {
-    let len = count16(read16(s, at + PAYLOAD_LENGTH_AT));
+    let len = usize::from(read16(s, at + PAYLOAD_LENGTH_AT));
     Packet6 {
         source: read128(s, at + SOURCE_AT),
         destination: read128(s, at + DESTINATION_AT),

@@ -8,17 +8,17 @@ pub mod link_layer;
 use addresses::Wide;
 
 #[derive(Clone, Copy)]
-pub enum Tag {
-    Untagged,
-    Tagged { priority: u8, vlan: u16 },
+pub struct Tag {
+    pub priority: u8,
+    pub vlan: u16,
 }
 
-// The header lies at 0, the rest starts at hlen.
+// The header lies at 0, the rest starts at hlen. An untagged frame has no tag.
 #[derive(Clone, Copy)]
 pub struct Link {
     pub destination: u64,
     pub source: u64,
-    pub tag: Tag,
+    pub tag: Option<Tag>,
     pub ether: u16,
     pub hlen: usize,
 }
@@ -35,24 +35,21 @@ pub struct Packet {
     pub plen: usize,
 }
 
-// The extension headers of an IPv6 packet: the number after them, and where what follows them lies; or that following them fails.
+// What follows the extension headers of an IPv6 packet: the number that names it, and where it lies.
 #[derive(Clone, Copy)]
-pub enum Chain {
-    Fails,
-    Ends {
-        number: u8,
-        payload: usize,
-        plen: usize,
-    },
+pub struct Upper {
+    pub number: u8,
+    pub payload: usize,
+    pub plen: usize,
 }
 
-// Its header has 40 bytes.
+// Its header has 40 bytes. The chain of its extension headers leads to what follows them, or following it fails.
 #[derive(Clone, Copy)]
 pub struct Packet6 {
     pub source: Wide,
     pub destination: Wide,
     pub header: usize,
-    pub chain: Chain,
+    pub chain: Option<Upper>,
 }
 
 #[derive(Clone, Copy)]

@@ -29,6 +29,7 @@ const TOP_3: u16 = 8192;
 
 const LOW_12: u16 = 4096;
 
+#[tactic(auto, unfolding(crate::specs::Link::tagged))]
 pub fn is_tagged(s: &[u8]) -> bool
     requires { link_bytes ≤ length s.now }
     ensures { result ≡ tagged s.now }
@@ -36,17 +37,19 @@ pub fn is_tagged(s: &[u8]) -> bool
     read16(s, ETHER_AT) == TAG_TYPE
 }
 
+#[tactic(auto, unfolding(crate::specs::Link::tag_of))]
 fn read_tag(s: &[u8]) -> Tag
     requires { tagged_bytes ≤ length s.now }
     ensures { result ≡ tag_of s.now }
 {
     let x = read16(s, TAG_AT);
-    Tag::Tagged {
+    Tag {
         priority: (x / TOP_3) as u8,
         vlan: x % LOW_12,
     }
 }
 
+#[tactic(auto, unfolding(crate::specs::Link::link_of))]
 pub fn read_link(s: &[u8]) -> Link
     requires header { link_bytes ≤ length s.now }
     requires tag { tagged s.now ≡ true → tagged_bytes ≤ length s.now }
@@ -58,7 +61,7 @@ pub fn read_link(s: &[u8]) -> Link
         Link {
             destination,
             source,
-            tag: read_tag(s),
+            tag: Some(read_tag(s)),
             ether: read16(s, TAGGED_ETHER_AT),
             hlen: TAGGED_BYTES,
         }
@@ -66,7 +69,7 @@ pub fn read_link(s: &[u8]) -> Link
         Link {
             destination,
             source,
-            tag: Tag::Untagged,
+            tag: None,
             ether: read16(s, ETHER_AT),
             hlen: LINK_BYTES,
         }

@@ -4,32 +4,27 @@ use Rattle.std.specs.Prelude.{ℕ, ◌∷◌}
 use Rattle.numbers.specs.Lists.{copies}
 use Rattle.table.specs.declared.Action.TheVariants as action
 use Rattle.table.specs.declared.Kind.TheVariants as kind
-use Rattle.table.specs.declared.Setting8.TheVariants as set8
-use Rattle.table.specs.declared.Setting16.TheVariants as set16
-use Rattle.table.specs.declared.Setting32.TheVariants as set32
-use Rattle.table.specs.declared.Setting64.TheVariants as set64
-use Rattle.table.specs.declared.KindSetting.TheVariants as set_kind
-use Rattle.table.specs.declared.RangeSetting.{RangeSetting}
-use Rattle.table.specs.declared.RangeSetting.TheVariants as set_range
-use Rattle.table.specs.declared.PrefixSetting.TheVariants as set_prefix
 use Rattle.table.specs.declared.LinkSettings.{LinkSettings}
 use Rattle.table.specs.declared.Rule.{Rule}
 use Rattle.table.specs.declared.Table.{Table}
 use Rattle.table.specs.Table.{no_rule, no_state}
+use Rattle.table.specs.declared.Setting.{Setting}
+use Rattle.table.specs.declared.Setting.TheVariants.{Unset as unset, Set as set}
+use Rattle.table.specs.declared.Range.{Range}
 
 -- an ether type and no other link setting; a range of ports
 abbrev pub ethers : ℕ → LinkSettings
 ethers v = record {
-  destination = set64.Unset;
-  source = set64.Unset;
-  vlan = set16.Unset;
-  priority = set8.Unset;
-  ether = set16.Set v;
-  socket = set8.Unset;
+  destination = unset;
+  source = unset;
+  vlan = unset;
+  priority = unset;
+  ether = set v;
+  socket = unset;
 }
 
-abbrev pub range : ℕ → ℕ → RangeSetting
-range low high = set_range.Set (record { low = low; high = high })
+abbrev pub range : ℕ → ℕ → Setting Range
+range low high = set (record { low = low; high = high })
 
 -- "10 allow, ether 0x0800, source 10.0.0.0/8, UDP destination 30501-30501, service 0x1000, type 0x80"
 abbrev pub rule10 : Rule
@@ -37,10 +32,10 @@ rule10 = record {
   id = 10;
   action = action.Allow;
   link = ethers 0x0800;
-  ipv4 = record { source = set_prefix.Set (record { address = 0x0a000000; length = 8 }); destination = set_prefix.Unset; protocol = set8.Unset };
+  ipv4 = record { source = set (record { address = 0x0a000000; length = 8 }); destination = unset; protocol = unset };
   ipv6 = no_rule.ipv6;
-  transport = record { kind = set_kind.Set kind.Udp; source = set_range.Unset; destination = range 30501 30501 };
-  someip = record { service = set16.Set 0x1000; method = set16.Unset; version = set8.Unset; kind = set8.Set 0x80; code = set8.Unset };
+  transport = record { kind = set kind.Udp; source = unset; destination = range 30501 30501 };
+  someip = record { service = set 0x1000; method = unset; version = unset; kind = set 0x80; code = unset };
   rate = no_rule.rate;
   tracking = no_rule.tracking;
 }
@@ -53,10 +48,10 @@ rule20 = record {
   link = no_rule.link;
   ipv4 = no_rule.ipv4;
   ipv6 = no_rule.ipv6;
-  transport = record { kind = set_kind.Set kind.Tcp; source = range 443 443; destination = set_range.Unset };
+  transport = record { kind = set kind.Tcp; source = range 443 443; destination = unset };
   someip = no_rule.someip;
   rate = no_rule.rate;
-  tracking = record { places = set8.Set 2; limit = set32.Set 1000; number0 = set8.Set 2; number1 = set8.Set 2 };
+  tracking = record { places = set 2; limit = set 1000; number0 = set 2; number1 = set 2 };
 }
 
 -- "30 allow, ether 0x0806, size 2, refill 1"
@@ -69,7 +64,7 @@ rule30 = record {
   ipv6 = no_rule.ipv6;
   transport = no_rule.transport;
   someip = no_rule.someip;
-  rate = record { size = set16.Set 2; refill = set16.Set 1 };
+  rate = record { size = set 2; refill = set 1 };
   tracking = no_rule.tracking;
 }
 
@@ -81,7 +76,7 @@ rule40 = record {
   link = no_rule.link;
   ipv4 = no_rule.ipv4;
   ipv6 = no_rule.ipv6;
-  transport = record { kind = set_kind.Set kind.Udp; source = set_range.Unset; destination = range 0 1023 };
+  transport = record { kind = set kind.Udp; source = unset; destination = range 0 1023 };
   someip = no_rule.someip;
   rate = no_rule.rate;
   tracking = no_rule.tracking;

@@ -28,8 +28,8 @@ use Rattle.payloads.specs.Someip.{Cut, Fails, Into, cut, does_cut, present_if, s
 use Rattle.payloads.proofs.Cutting.{nothing_first}
 use Rattle.packets.specs.Inside.{ChainInside, IpInside}
 use Rattle.payloads.specs.Inside.{TransportInside, SomeipInside}
-use Rattle.packets.specs.declared.Chain.{Chain}
-use Rattle.packets.specs.declared.Chain.TheVariants as chain
+use Rattle.packets.specs.declared.Upper.{Upper}
+use Rattle.std.specs.Prelude.{Option, None, Some}
 use Rattle.packets.specs.declared.Ip.{Ip}
 use Rattle.packets.specs.declared.Ip.TheVariants as ip
 use Rattle.payloads.specs.declared.Transport.{Transport}
@@ -65,9 +65,9 @@ at_inside s protocol at len b =
     record { joined = refl; payload = omega arith })
     (λ k. tt))
 
-after_inside : (s : List ℕ) (c : Chain) → ChainInside s c → TransportInside s (transport_after s c)
-after_inside s chain.Fails w = tt
-after_inside s (chain.Ends n at len) w = at_inside s n at len w
+after_inside : (s : List ℕ) (c : Option Upper) → ChainInside s c → TransportInside s (transport_after s c)
+after_inside s None w = tt
+after_inside s (Some u) w = at_inside s u.number u.payload u.plen w
 
 pub transport_inside : (s : List ℕ) (i : Ip) → IpInside s i → TransportInside s (transport_of s i)
 unfolding transport_of

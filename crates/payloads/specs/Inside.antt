@@ -1,6 +1,6 @@
 -- What a reader of transport and SOME/IP may count on: every offset and length lies within the frame, and a bundle cuts.
 -- Assumes nothing.
-use Rattle.std.specs.Prelude.{ℕ, ◌+◌, ◌≤◌, ◌<◌, ◌≡◌, List, true, length}
+use Rattle.std.specs.Prelude.{ℕ, ◌+◌, ◌≤◌, ◌<◌, ◌≡◌, List, true, Option, None, Some, length}
 use Rattle.payloads.specs.Transport.{tcp_bytes, udp_bytes}
 use Rattle.payloads.specs.Someip.{cut, does_cut}
 use Rattle.payloads.specs.declared.Segment.{Segment}
@@ -8,8 +8,6 @@ use Rattle.payloads.specs.declared.Datagram.{Datagram}
 use Rattle.payloads.specs.declared.Transport.{Transport}
 use Rattle.payloads.specs.declared.Transport.TheVariants as transport
 use Rattle.payloads.specs.declared.Bundle.{Bundle}
-use Rattle.payloads.specs.declared.Someip.{Someip}
-use Rattle.payloads.specs.declared.Someip.TheVariants as someip
 
 -- a TCP header of at least 20 bytes
 pub record SegmentInside (s : List ℕ) (t : Segment) : Type 0 where
@@ -38,6 +36,6 @@ pub record BundleInside (s : List ℕ) (b : Bundle) : Type 0 where
   pub cut : CutInside s b.payload b.plen
 
 -- SOME/IP, where it is present
-abbrev pub SomeipInside : List ℕ → Someip → Type 0
-SomeipInside s someip.Absent = Unit {0}
-SomeipInside s (someip.Present b) = BundleInside s b
+abbrev pub SomeipInside : List ℕ → Option Bundle → Type 0
+SomeipInside s None = Unit {0}
+SomeipInside s (Some b) = BundleInside s b

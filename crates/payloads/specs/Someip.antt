@@ -1,13 +1,12 @@
 -- 01, "What a frame shows", SOME/IP, as change request 3/12 has it: in the UDP payload of len bytes from `at` on, in the frame s.
 -- Assumes nothing.
-use Rattle.std.specs.Prelude.{ℕ, zero, suc, ◌+◌, ◌-◌, List, [], ◌∷◌, Bool, true, false, cond, leb, eqb}
+use Rattle.std.specs.Prelude.{ℕ, zero, suc, ◌+◌, ◌-◌, List, [], ◌∷◌, Bool, true, false, cond, Option, None, Some, leb, eqb}
 use Rattle.numbers.specs.Bytes.{byte, be16, be32}
 use Rattle.numbers.specs.Lists.{every}
 use Rattle.payloads.specs.declared.Transport.{Transport}
 use Rattle.payloads.specs.declared.Transport.TheVariants as transport
 use Rattle.payloads.specs.declared.Message.{Message}
-use Rattle.payloads.specs.declared.Someip.{Someip}
-use Rattle.payloads.specs.declared.Someip.TheVariants as someip
+use Rattle.payloads.specs.declared.Bundle.{Bundle}
 
 -- 003, listing 5, from the header's start: the service id at 0, then these
 abbrev pub method_at : ℕ
@@ -100,21 +99,21 @@ messages_in (Into ms) = ms
 -- ---- the layer
 
 -- "present exactly when the UDP payload cuts", into "one or more": its bytes are then the bundle
-abbrev pub present_if : ℕ → ℕ → Cut → Someip
-present_if at len Fails = someip.Absent
-present_if at len (Into []) = someip.Absent
-present_if at len (Into (m ∷ ms)) = someip.Present (record { payload = at; plen = len })
+abbrev pub present_if : ℕ → ℕ → Cut → Option Bundle
+present_if at len Fails = None
+present_if at len (Into []) = None
+present_if at len (Into (m ∷ ms)) = Some (record { payload = at; plen = len })
 
-unfoldable pub someip_at : List ℕ → ℕ → ℕ → Someip
+unfoldable pub someip_at : List ℕ → ℕ → ℕ → Option Bundle
 someip_at s at len = present_if at len (cut s at len)
 
 -- 01: "SOME/IP is present if the transport is UDP", and ..
-unfoldable pub someip_of : List ℕ → Transport → Someip
-someip_of s transport.Absent = someip.Absent
-someip_of s (transport.Tcp t) = someip.Absent
+unfoldable pub someip_of : List ℕ → Transport → Option Bundle
+someip_of s transport.Absent = None
+someip_of s (transport.Tcp t) = None
 someip_of s (transport.Udp u) = someip_at s u.payload u.plen
 
 -- the messages of the layer, none where it is absent
-abbrev pub messages_of : List ℕ → Someip → List Message
-messages_of s someip.Absent = []
-messages_of s (someip.Present b) = messages_in (cut s b.payload b.plen)
+abbrev pub messages_of : List ℕ → Option Bundle → List Message
+messages_of s None = []
+messages_of s (Some b) = messages_in (cut s b.payload b.plen)

@@ -1,10 +1,9 @@
 -- 01, "What a frame shows", Transport; change request 2/12. TCP and UDP are said once for both kinds of IP, over what follows: len bytes from `at` on, in the frame s.
 -- Assumes nothing.
-use Rattle.std.specs.Prelude.{ℕ, ◌+◌, ◌-◌, ◌*◌, ◌/◌, ◌%◌, List, [], ◌∷◌, Bool, cond, ◌&&◌, leb, eqb}
+use Rattle.std.specs.Prelude.{ℕ, ◌+◌, ◌-◌, ◌*◌, ◌/◌, ◌%◌, List, [], ◌∷◌, Bool, cond, ◌&&◌, Option, None, Some, leb, eqb}
 use Rattle.numbers.specs.Bytes.{byte, be16}
 use Rattle.numbers.specs.Lists.{every}
-use Rattle.packets.specs.declared.Chain.{Chain}
-use Rattle.packets.specs.declared.Chain.TheVariants as chain
+use Rattle.packets.specs.declared.Upper.{Upper}
 use Rattle.packets.specs.declared.Ip.{Ip}
 use Rattle.packets.specs.declared.Ip.TheVariants as ip
 use Rattle.payloads.specs.declared.Segment.{Segment}
@@ -131,9 +130,9 @@ transport_at s protocol at len =
     (cond (udp_here s protocol at len) (transport.Udp (datagram_at s at len)) transport.Absent)
 
 -- 2/12: "transport lengths are measured in what follows the chain"; where the chain fails, "leaving the transport absent"
-abbrev pub transport_after : List ℕ → Chain → Transport
-transport_after s chain.Fails = transport.Absent
-transport_after s (chain.Ends n at len) = transport_at s n at len
+abbrev pub transport_after : List ℕ → Option Upper → Transport
+transport_after s None = transport.Absent
+transport_after s (Some u) = transport_at s u.number u.payload u.plen
 
 -- "Transport is present if IPv4 is, more-fragments is clear, the fragment offset is 0, and ..", or if IPv6 is and ..
 unfoldable pub transport_of : List ℕ → Ip → Transport

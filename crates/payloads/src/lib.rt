@@ -51,9 +51,3 @@ pub struct Bundle {
     pub payload: usize,
     pub plen: usize,
 }
-
-#[derive(Clone, Copy)]
-pub enum Someip {
-    Absent,
-    Present(Bundle),
-}

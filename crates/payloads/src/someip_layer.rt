@@ -4,7 +4,7 @@ ghost use Rattle.payloads.specs.Someip.{someip_bytes, uncounted, length_field, m
 ghost use Rattle.payloads.specs.Inside.{TransportInside};
 
 use crate::*;
-use numbers::{count32, read16, read32};
+use numbers::{read16, read32};
 
 // From the header's start, where the service id is.
 const METHOD_AT: usize = 2;
@@ -30,10 +30,11 @@ fn length_at(s: &[u8], at: usize) -> usize
     ensures value { result ≡ length_field s.now at }
     ensures bound { result < 4294967296 }
 {
-    count32(read32(s, at + LENGTH_AT))
+    read32(s, at + LENGTH_AT) as usize
 }
 
 // Does a whole message stand first in these bytes?
+#[tactic(auto, using(crate::proofs::OnSomeip::here_short), unfolding(crate::specs::Someip::message_here, crate::specs::Someip::message_tests))]
 fn message_here(s: &[u8], at: usize, len: usize) -> bool
     requires { at + len ≤ length s.now }
     ensures { result ≡ message_here s.now at len }
@@ -42,14 +43,12 @@ fn message_here(s: &[u8], at: usize, len: usize) -> bool
         return false;
     }
     let counted = length_at(s, at);
-    if counted < LEAST_LENGTH {
-        return false;
-    }
-    UNCOUNTED + counted <= len
+    LEAST_LENGTH <= counted && UNCOUNTED + counted <= len
 }
 
 /// The message at `at` of the frame's bytes s, where one stands. The first of a bundle is at its payload, each other `size` bytes behind the
 /// one before it, and `plen` less those bytes is what is left to read: law `walked` of proofs/Cutting.
+#[tactic(auto, unfolding(crate::specs::Someip::message_at))]
 pub fn message_at(s: &[u8], at: usize) -> Message
     requires { at + someip_bytes ≤ length s.now }
     ensures { result ≡ message_at s.now at }
@@ -66,12 +65,14 @@ pub fn message_at(s: &[u8], at: usize) -> Message
 }
 
 // Goes from message to message by their Length, up to the payload's end.
+#[tactic(auto, using(crate::proofs::OnSomeip::passed, crate::proofs::OnSomeip::ended, crate::proofs::OnSomeip::nothing_cuts))]
 fn cuts(s: &[u8], payload: usize, plen: usize) -> bool
     requires { payload + plen ≤ length s.now }
     ensures { result ≡ does_cut (cut s.now payload plen) }
 {
     let mut at = payload;
     let mut len = plen;
+    // A while and not a for: the step is told by the bytes.
     while len > 0 {
         if !message_here(s, at, len) {
             return false;
@@ -84,30 +85,27 @@ fn cuts(s: &[u8], payload: usize, plen: usize) -> bool
 }
 
 // One or more messages: no bytes are none.
-fn someip_at(s: &[u8], at: usize, len: usize) -> Someip
+#[tactic(auto, using(crate::proofs::OnSomeip::someip_is))]
+fn someip_at(s: &[u8], at: usize, len: usize) -> Option<Bundle>
     requires { at + len ≤ length s.now }
     ensures { result ≡ someip_at s.now at len }
 {
-    if len == 0 {
-        return Someip::Absent;
+    if len == 0 || !cuts(s, at, len) {
+        return None;
     }
-    if cuts(s, at, len) {
-        Someip::Present(Bundle {
-            payload: at,
-            plen: len,
-        })
-    } else {
-        Someip::Absent
-    }
+    Some(Bundle {
+        payload: at,
+        plen: len,
+    })
 }
 
-pub fn read_someip(s: &[u8], t: Transport) -> Someip
+#[tactic(auto, unfolding(crate::specs::Someip::someip_of))]
+pub fn read_someip(s: &[u8], t: Transport) -> Option<Bundle>
     requires { TransportInside s.now t }
     ensures { result ≡ someip_of s.now t }
 {
     match t {
-        Transport::Absent => Someip::Absent,
-        Transport::Tcp(_) => Someip::Absent,
+        Transport::Absent | Transport::Tcp(_) => None,
         Transport::Udp(u) => someip_at(s, u.payload, u.plen),
     }
 }

@@ -5,8 +5,8 @@ ghost use Rattle.payloads.specs.Transport.{tcp_bytes, udp_bytes, unfragmented, t
 ghost use Rattle.packets.specs.Inside.{PacketInside, ChainInside, IpInside};
 
 use crate::*;
-use numbers::{count8, count16, read16};
-use packets::{Chain, Ip, Packet};
+use numbers::read16;
+use packets::{Ip, Packet, Upper};
 
 // In the IPv4 header: flags and fragment offset, and the weight of more-fragments, below which the offset lies.
 const FRAGMENT_AT: usize = 6;
@@ -42,47 +42,36 @@ const UDP_PROTOCOL: u8 = 17;
 
 const UDP_BYTES: usize = 8;
 
+#[tactic(auto, unfolding(crate::specs::Transport::unfragmented))]
 fn is_whole(s: &[u8], at: usize) -> bool
     requires { at + ipv4_bytes ≤ length s.now }
     ensures { result ≡ unfragmented s.now at }
 {
     let f = read16(s, at + FRAGMENT_AT);
-    if f / MORE_FRAGMENTS % 2 != 0 {
-        return false;
-    }
-    f % MORE_FRAGMENTS == 0
+    f / MORE_FRAGMENTS % 2 == 0 && f % MORE_FRAGMENTS == 0
 }
 
+#[tactic(auto, unfolding(crate::specs::Transport::tcp_here, crate::specs::Transport::tcp_tests))]
 fn tcp_here(s: &[u8], protocol: u8, at: usize, len: usize) -> bool
     requires { at + len ≤ length s.now }
     ensures { result ≡ tcp_here s.now protocol at len }
 {
-    if protocol != TCP_PROTOCOL {
+    if protocol != TCP_PROTOCOL || len < TCP_BYTES {
         return false;
     }
-    if len < TCP_BYTES {
-        return false;
-    }
-    let words = count8(s[at + OFFSET_AT]) / 16;
-    if words < LEAST_OFFSET {
-        return false;
-    }
-    4 * words <= len
+    let words = usize::from(s[at + OFFSET_AT]) / 16;
+    LEAST_OFFSET <= words && 4 * words <= len
 }
 
+#[tactic(auto, unfolding(crate::specs::Transport::udp_here, crate::specs::Transport::udp_tests))]
 fn udp_here(s: &[u8], protocol: u8, at: usize, len: usize) -> bool
     requires { at + len ≤ length s.now }
     ensures { result ≡ udp_here s.now protocol at len }
 {
-    if protocol != UDP_PROTOCOL {
-        return false;
-    }
-    if len < UDP_BYTES {
-        return false;
-    }
-    count16(read16(s, at + LENGTH_AT)) == len
+    protocol == UDP_PROTOCOL && UDP_BYTES <= len && usize::from(read16(s, at + LENGTH_AT)) == len
 }
 
+#[tactic(auto, unfolding(crate::specs::Transport::segment_at))]
 fn segment_at(s: &[u8], at: usize) -> Segment
     requires { at + tcp_bytes ≤ length s.now }
     ensures { result ≡ segment_at s.now at }
@@ -96,10 +85,11 @@ fn segment_at(s: &[u8], at: usize) -> Segment
         rst: flags / RST % 2 == 1,
         ack: flags / ACK % 2 == 1,
         header: at,
-        hlen: 4 * (count8(s[at + OFFSET_AT]) / 16),
+        hlen: 4 * (usize::from(s[at + OFFSET_AT]) / 16),
     }
 }
 
+#[tactic(auto, unfolding(crate::specs::Transport::datagram_at))]
 fn datagram_at(s: &[u8], at: usize, len: usize) -> Datagram
     requires header { udp_bytes ≤ len }
     requires inside { at + len ≤ length s.now }
@@ -114,6 +104,7 @@ fn datagram_at(s: &[u8], at: usize, len: usize) -> Datagram
     }
 }
 
+#[tactic(auto, using(crate::proofs::Laws::tcp_fits, crate::proofs::Laws::udp_fits), unfolding(crate::specs::Transport::transport_at))]
 fn transport_at(s: &[u8], protocol: u8, at: usize, len: usize) -> Transport
     requires { at + len ≤ length s.now }
     ensures { result ≡ transport_at s.now protocol at len }
@@ -128,34 +119,30 @@ fn transport_at(s: &[u8], protocol: u8, at: usize, len: usize) -> Transport
 }
 
 // What a packet carries, unless it is a fragment.
+#[tactic(auto, unfolding(crate::specs::Transport::transport_of))]
 fn transport_in(s: &[u8], p: Packet) -> Transport
     requires { PacketInside s.now p }
     ensures { result ≡ transport_of s.now (Ip.V4 p) }
 {
-    let at = p.header;
-    if is_whole(s, at) {
-        let payload = p.payload;
-        transport_at(s, p.protocol, payload, p.plen)
+    if is_whole(s, p.header) {
+        transport_at(s, p.protocol, p.payload, p.plen)
     } else {
         Transport::Absent
     }
 }
 
 // What follows a chain of extension headers, unless the chain fails.
-fn transport_after(s: &[u8], c: Chain) -> Transport
+fn transport_after(s: &[u8], c: Option<Upper>) -> Transport
     requires { ChainInside s.now c }
     ensures { result ≡ transport_after s.now c }
 {
     match c {
-        Chain::Fails => Transport::Absent,
-        Chain::Ends {
-            number,
-            payload,
-            plen,
-        } => transport_at(s, number, payload, plen),
+        None => Transport::Absent,
+        Some(upper) => transport_at(s, upper.number, upper.payload, upper.plen),
     }
 }
 
+#[tactic(auto, unfolding(crate::specs::Transport::transport_of))]
 pub fn read_transport(s: &[u8], i: Ip) -> Transport
     requires { IpInside s.now i }
     ensures { result ≡ transport_of s.now i }
@@ -163,9 +150,6 @@ pub fn read_transport(s: &[u8], i: Ip) -> Transport
     match i {
         Ip::Absent => Transport::Absent,
         Ip::V4(p) => transport_in(s, p),
-        Ip::V6(p) => {
-            let chain = p.chain;
-            transport_after(s, chain)
-        }
+        Ip::V6(p) => transport_after(s, p.chain),
     }
 }

@@ -1,30 +1,16 @@
 -- The tests of one rule, layer by layer.
 -- Assumes nothing.
-use mathlib.Core.Path.{◌≡◌, refl}
-use mathlib.Core.List.{List, [], ◌∷◌, ◌++◌}
-use mathlib.Core.Bool.{Bool, true, cond, ◌&&◌, ◌||◌, beq, false≢true}
+use mathlib.Core.Path.{◌≡◌, refl, sym, ap, ◌∙◌}
+use mathlib.Core.List.{List, ◌++◌}
+use mathlib.Core.Bool.{Bool, true, ◌&&◌, ◌||◌, false≢true}
 use Rattle.numbers.proofs.Tests.{cond_skips}
-use Rattle.table.specs.Settings.{Setting, unset, set, within, is_unset, paired, of8, of16}
-use Rattle.ranges.specs.declared.setting_number.SettingNumber.{SettingNumber}
-use Rattle.ranges.specs.Numbers as setting
-use Rattle.ranges.specs.Ranges.{
-  any,
-  may_track,
-  Test,
-  test,
-  head_tests,
-  link_tests,
-  ipv6_good,
-  ip_tests,
-  transport_tests,
-  someip_tests,
-  rate_tests,
-  tracking_tests,
-  rule_tests,
-  all_good,
-  fault_in,
-}
-use Rattle.ranges.proofs.Tests.{settings_named, rest_good, block_goes}
+use Rattle.table.specs.Settings.{within, is_unset}
+use Rattle.table.specs.declared.Setting.{Setting}
+use Rattle.table.specs.declared.Setting.TheVariants.{Unset as unset, Set as set}
+use Rattle.ranges.specs.Ranges.{any, may_track, Test, head_tests, link_tests, ipv6_good, ip_tests, transport_tests, someip_tests, rate_tests, tracking_tests, rule_tests, all_good, fault_in}
+use Rattle.ranges.proofs.Tests.{and_then, fault_after, rest_good}
+use Rattle.std.specs.Prelude.{Ok}
+use Rattle.table.specs.declared.SomeipSettings.{SomeipSettings}
 use Rattle.table.specs.declared.Rule.{Rule}
 
 -- a setting whose every value is good
@@ -43,15 +29,6 @@ by_parts may e f = rw (e, f)
 
 pub any_alone : {A : Type 0} (s : Setting A) (alone : Bool) {b : Bool} → b ≡ is_unset s → (b || alone) ≡ ipv6_good any s alone
 any_alone s alone f = rw (f, any_good s)
-
--- "both or neither": the two halves of a pair, each with the other
-pub pair_fault :
-    {A B : Type 0} (x : Setting A) (y : Setting B) (m n : SettingNumber) {p q : Bool} → p ≡ is_unset x → q ≡ is_unset y
-    → cond (beq p q) setting.none (cond p n m) ≡ fault_in (test m (paired x y) ∷ test n (paired y x) ∷ [])
-pair_fault unset unset m n e f = rw (e, f)
-pair_fault unset (set b) m n e f = rw (e, f)
-pair_fault (set a) unset m n e f = rw (e, f)
-pair_fault (set a) (set b) m n e f = rw (e, f)
 
 -- ---- the tests of a rule, layer by layer
 
@@ -75,16 +52,7 @@ module _ (r : Rule) where
   abbrev pub from_link : List Test
   from_link = link_tests r.link ++ from_ip
 
--- the tests before these have passed
-abbrev pub Reached : Bool → Rule → List Test → Type 0
-Reached fresh r rest = fault_in (rule_tests fresh r) ≡ fault_in rest
-
 module _ (fresh : Bool) (r : Rule) where
-  -- no setting has the number that stands for none
-  pub rule_named : settings_named (rule_tests fresh r) ≡ true
-  unfolding rule_tests
-  rule_named = refl
-
   -- those of tracking, which stand last, are good where all are
   pub tracking_good : all_good (rule_tests fresh r) ≡ true → all_good (from_tracking r) ≡ true
   unfolding rule_tests
@@ -94,17 +62,30 @@ module _ (fresh : Bool) (r : Rule) where
       (rest_good (transport_tests r.transport) (from_someip r)
       (rest_good (ip_tests r.ipv4 r.ipv6) (from_transport r) (rest_good (link_tests r.link) (from_ip r) (rest_good (head_tests fresh r) (from_link r) e)))))
 
-  pub at_head : Reached fresh r (head_tests fresh r ++ from_link r)
-  unfolding rule_tests
-  at_head = refl
+-- those of SOME/IP always pass
+pub someip_passes : (s : SomeipSettings) → fault_in (someip_tests s) ≡ Ok tt
+someip_passes s =
+    sym
+    (cond_skips _ (any_good s.service)
+    (cond_skips _ (any_good s.method)
+    (cond_skips _ (any_good s.version)
+    (cond_skips _ (any_good s.kind) (cond_skips _ (any_good s.code) refl)))))
 
-  -- those of SOME/IP always pass
-  pub past_someip : Reached fresh r (from_someip r) → Reached fresh r (from_rate r)
-  past_someip e =
-      let s = r.someip in
-      block_goes (rule_tests fresh r) (someip_tests s) (from_rate r) refl e
-      (cond_skips _ (any_good (of16 s.service))
-      (cond_skips _ (any_good (of16 s.method))
-      (cond_skips _ (any_good (of8 s.version))
-      (cond_skips _ (any_good (of8 s.kind)) (cond_skips _ (any_good (of8 s.code)) refl)))))
-      refl
+-- layer by layer: the first of them that has a fault tells it
+pub by_layers : (fresh : Bool) (r : Rule)
+    → fault_in (rule_tests fresh r)
+    ≡ and_then (fault_in (head_tests fresh r))
+    (and_then (fault_in (link_tests r.link))
+    (and_then (fault_in (ip_tests r.ipv4 r.ipv6))
+    (and_then (fault_in (transport_tests r.transport))
+    (and_then (fault_in (rate_tests r.rate)) (fault_in (tracking_tests r.tracking (may_track r)))))))
+unfolding rule_tests
+by_layers fresh r =
+    let t = tracking_tests r.tracking (may_track r) in
+    let e = fault_after (rate_tests r.rate) t in
+    let f : fault_in (from_someip r) ≡ and_then (fault_in (rate_tests r.rate)) (fault_in t) =
+    fault_after (someip_tests r.someip) (from_rate r) ∙ ap (λ x. and_then x (fault_in (from_rate r))) (someip_passes r.someip) ∙ e in
+    let g = fault_after (transport_tests r.transport) (from_someip r) ∙ ap (and_then (fault_in (transport_tests r.transport))) f in
+    let h = fault_after (ip_tests r.ipv4 r.ipv6) (from_transport r) ∙ ap (and_then (fault_in (ip_tests r.ipv4 r.ipv6))) g in
+    let k = fault_after (link_tests r.link) (from_ip r) ∙ ap (and_then (fault_in (link_tests r.link))) h in
+    fault_after (head_tests fresh r) (from_link r) ∙ ap (and_then (fault_in (head_tests fresh r))) k

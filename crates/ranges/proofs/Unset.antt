@@ -13,12 +13,10 @@ use Rattle.numbers.specs.Lists.{every}
 use Rattle.numbers.proofs.Lists.{every_at}
 use Rattle.numbers.proofs.Tests.{cond_skips}
 use Rattle.table.specs.Marks.{ipv6_unset}
-use Rattle.table.specs.Settings.{of8, of_prefix6}
 use Rattle.table.specs.Table.{marked}
-use Rattle.table.specs.declared.Ipv6Settings.{Ipv6Settings}
 use Rattle.ranges.proofs.Rules.{unset_good}
 use Rattle.ranges.specs.Ranges.{any, prefix6_good, link_tests, ip_tests, ipv6_tests, transport_tests, rate_tests, tracking_tests, fault_in}
-use Rattle.ranges.specs.Numbers.{none}
+use Rattle.std.specs.Prelude.{Ok}
 use Rattle.table.specs.Words.{
   link_word,
   ip_word,
@@ -42,6 +40,8 @@ use Rattle.table.specs.Words.{
   rate_in,
   tracking_in,
 }
+use Rattle.addresses.specs.declared.Wide.{Wide}
+use Rattle.table.specs.declared.IpSettings.{IpSettings}
 
 -- a number whose lowest byte is zero has no bit there
 no_bit : (n k : ℕ) → n % 2 ^ 8 ≡ 0 → k < 8 → n / 2 ^ k % 2 ≡ 0
@@ -60,35 +60,35 @@ module _ (w : List ℕ) where
       ne_eqb (word w layer / 2 ^ bit % 2) 1 (λ q. absurd (omega arith))
 
   module _ {b : Bool} (f : b ≡ true) where
-    pub link_unset_lem : b ≡ eqb (word w link_word % 256) 0 → none ≡ fault_in (link_tests (link_in w))
+    pub link_unset_lem : b ≡ eqb (word w link_word % 256) 0 → Ok tt ≡ fault_in (link_tests (link_in w))
     unfolding setting8_in setting16_in setting64_in
     link_unset_lem e =
         rw (none_set_lem link_word 0 e f (omega arith), none_set_lem link_word 1 e f (omega arith), none_set_lem link_word 2 e f (omega arith), none_set_lem link_word 3 e f (omega arith), none_set_lem link_word 4 e f (omega arith), none_set_lem link_word 5 e f (omega arith))
 
-    pub ip_unset_lem : b ≡ eqb (word w ip_word % 256) 0 → none ≡ fault_in (ip_tests (ipv4_in w) (ipv6_in w))
+    pub ip_unset_lem : b ≡ eqb (word w ip_word % 256) 0 → Ok tt ≡ fault_in (ip_tests (ipv4_in w) (ipv6_in w))
     unfolding setting8_in prefix_in prefix6_in
     ip_unset_lem e =
         rw (none_set_lem ip_word 0 e f (omega arith), none_set_lem ip_word 1 e f (omega arith), none_set_lem ip_word 2 e f (omega arith), none_set_lem ip_word 3 e f (omega arith), none_set_lem ip_word 4 e f (omega arith), none_set_lem ip_word 5 e f (omega arith))
 
-    pub transport_unset_lem : b ≡ eqb (word w transport_word % 256) 0 → none ≡ fault_in (transport_tests (transport_in w))
+    pub transport_unset_lem : b ≡ eqb (word w transport_word % 256) 0 → Ok tt ≡ fault_in (transport_tests (transport_in w))
     unfolding kind_setting_in range_in
     transport_unset_lem e =
         rw (none_set_lem transport_word 0 e f (omega arith), none_set_lem transport_word 1 e f (omega arith), none_set_lem transport_word 2 e f (omega arith))
 
-    pub rate_unset_lem : b ≡ eqb (word w rate_word % 256) 0 → none ≡ fault_in (rate_tests (rate_in w))
+    pub rate_unset_lem : b ≡ eqb (word w rate_word % 256) 0 → Ok tt ≡ fault_in (rate_tests (rate_in w))
     unfolding setting16_in
     rate_unset_lem e = rw (none_set_lem rate_word 0 e f (omega arith), none_set_lem rate_word 1 e f (omega arith))
 
-    pub tracking_unset_lem : b ≡ eqb (word w tracking_word % 256) 0 → (may : Bool) → none ≡ fault_in (tracking_tests (tracking_in w) may)
+    pub tracking_unset_lem : b ≡ eqb (word w tracking_word % 256) 0 → (may : Bool) → Ok tt ≡ fault_in (tracking_tests (tracking_in w) may)
     unfolding setting8_in setting32_in
     tracking_unset_lem e may =
         rw (none_set_lem tracking_word 0 e f (omega arith), none_set_lem tracking_word 1 e f (omega arith), none_set_lem tracking_word 2 e f (omega arith), none_set_lem tracking_word 3 e f (omega arith))
 
 -- no IPv6 setting is set, and none is at fault
-pub ipv6_unset_lem : (s : Ipv6Settings) (alone : Bool) {b : Bool} → b ≡ every (ipv6_unset s) → b ≡ true → none ≡ fault_in (ipv6_tests s alone)
+pub ipv6_unset_lem : (s : IpSettings Wide) (alone : Bool) {b : Bool} → b ≡ every (ipv6_unset s) → b ≡ true → Ok tt ≡ fault_in (ipv6_tests s alone)
 ipv6_unset_lem s alone e f =
     let h = sym e ∙ f in
     let ts = ipv6_unset s in
-    cond_skips _ (unset_good prefix6_good (of_prefix6 s.source) alone (every_at ts 0 h))
-    (cond_skips _ (unset_good prefix6_good (of_prefix6 s.destination) alone (every_at ts 1 h))
-    (cond_skips _ (unset_good any (of8 s.protocol) alone (every_at ts 2 h)) refl))
+    cond_skips _ (unset_good prefix6_good s.source alone (every_at ts 0 h))
+    (cond_skips _ (unset_good prefix6_good s.destination alone (every_at ts 1 h))
+    (cond_skips _ (unset_good any s.protocol alone (every_at ts 2 h)) refl))

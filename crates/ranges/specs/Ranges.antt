@@ -1,32 +1,30 @@
 -- When a rule is bad by itself: its settings in the paper's order, each with its test. Document 01, 'Rules and vehicle states'; change requests 1/12, 2/12 and 6/12.
 -- Assumes nothing.
+use Rattle.std.specs.Prelude.{Result, Ok, Err, ⊤}
 use Rattle.std.specs.Prelude.{ℕ, List, [], ◌∷◌, ◌++◌, Bool, true, false, cond, ◌&&◌, ◌||◌, not, leb}
 use Rattle.numbers.specs.Lists.{every, every_of}
-use Rattle.table.specs.Settings.{Setting, unset, set, of8, of16, of32, of64, of_kind, of_range, of_prefix, of_prefix6, is_unset, within, paired}
+use Rattle.table.specs.Settings.{is_unset, within, paired}
+use Rattle.table.specs.declared.Setting.{Setting}
+use Rattle.table.specs.declared.Setting.TheVariants.{Unset as unset, Set as set}
 use Rattle.table.specs.declared.Action.{Action}
 use Rattle.table.specs.declared.Action.TheVariants as action
 use Rattle.table.specs.declared.Kind.{Kind}
 use Rattle.table.specs.declared.Kind.TheVariants as kind
 use Rattle.table.specs.declared.Range.{Range}
 use Rattle.table.specs.declared.Prefix.{Prefix}
-use Rattle.table.specs.declared.Prefix6.{Prefix6}
-use Rattle.table.specs.declared.KindSetting.{KindSetting}
-use Rattle.table.specs.declared.RangeSetting.{RangeSetting}
 use Rattle.table.specs.declared.LinkSettings.{LinkSettings}
-use Rattle.table.specs.declared.Ipv4Settings.{Ipv4Settings}
-use Rattle.table.specs.declared.Ipv6Settings.{Ipv6Settings}
 use Rattle.table.specs.declared.TransportSettings.{TransportSettings}
 use Rattle.table.specs.declared.SomeipSettings.{SomeipSettings}
 use Rattle.table.specs.declared.RateSettings.{RateSettings}
 use Rattle.table.specs.declared.TrackingSettings.{TrackingSettings}
 use Rattle.table.specs.declared.Room.{Room}
-use Rattle.table.specs.declared.Setting8.TheVariants as set8
-use Rattle.table.specs.declared.Setting32.TheVariants as set32
 use Rattle.table.specs.declared.Rule.{Rule}
 use Rattle.table.specs.Marks.{ipv4_unset, tracking_unset}
 use Rattle.table.specs.Table.{most_places, is_allow, is_tcp}
 use Rattle.ranges.specs.declared.setting_number.SettingNumber.{SettingNumber}
-use Rattle.ranges.specs.Numbers as setting
+use Rattle.ranges.specs.declared.setting_number.SettingNumber.TheVariants as setting
+use Rattle.addresses.specs.declared.Wide.{Wide}
+use Rattle.table.specs.declared.IpSettings.{IpSettings}
 
 -- "A table is bad if a value is outside its range"
 abbrev pub any : {A : Type 0} → A → Bool
@@ -46,14 +44,18 @@ known_kind kind.Tcp = true
 known_kind kind.Udp = true
 known_kind kind.Unknown = false
 
-abbrev pub prefix_good : Prefix → Bool
-prefix_good p = leb p.length 32
+-- "prefix length 0-32", and of IPv6 "0-128"
+abbrev pub length_good : {A : Type 0} → ℕ → Prefix A → Bool
+length_good most p = leb p.length most
 
-abbrev pub prefix6_good : Prefix6 → Bool
-prefix6_good p = leb p.length 128
+abbrev pub prefix_good : Prefix ℕ → Bool
+prefix_good p = length_good 32 p
+
+abbrev pub prefix6_good : Prefix Wide → Bool
+prefix6_good p = length_good 128 p
 
 -- 2/12, "A rule sets IPv4 or IPv6 or neither": no setting of IPv4 is set
-abbrev pub no_ipv4 : Ipv4Settings → Bool
+abbrev pub no_ipv4 : IpSettings ℕ → Bool
 no_ipv4 s = every (ipv4_unset s)
 
 -- an IPv6 setting, within its range, and alone: not beside one of IPv4
@@ -65,12 +67,12 @@ abbrev pub range_good : Range → Bool
 range_good r = leb r.low r.high
 
 -- "ports are set without a kind"
-abbrev pub ports_good : KindSetting → RangeSetting → Bool
-ports_good k ports = within range_good (of_range ports) && paired (of_range ports) (of_kind k)
+abbrev pub ports_good : Setting Kind → Setting Range → Bool
+ports_good k ports = within range_good ports && paired ports k
 
 -- "tracking stands on a block rule or a rule not of kind TCP"
 abbrev pub may_track : Rule → Bool
-may_track r = is_allow r.action && is_tcp (of_kind r.transport.kind)
+may_track r = is_allow r.action && is_tcp r.transport.kind
 
 -- 6/12: the four of tracking go together, all or none
 abbrev pub all_set : TrackingSettings → Bool
@@ -79,10 +81,10 @@ all_set s = every_of not (tracking_unset s)
 -- the four as they are set where all are
 abbrev pub all_of : Room → TrackingSettings
 all_of m = record {
-  places = set8.Set m.places;
-  limit = set32.Set m.limit;
-  number0 = set8.Set m.number0;
-  number1 = set8.Set m.number1;
+  places = set m.places;
+  limit = set m.limit;
+  number0 = set m.number0;
+  number1 = set m.number1;
 }
 
 -- "0 to its places"
@@ -108,70 +110,70 @@ setting_of (test n b) = n
 -- "the id comes first", and right after it the action. `fresh`: no earlier rule has the id.
 abbrev pub head_tests : Bool → Rule → List Test
 head_tests fresh r =
-    test setting.id (leb r.id 65534 && fresh)
-    ∷ test setting.action (known_action r.action)
+    test setting.Id (leb r.id 65534 && fresh)
+    ∷ test setting.Action (known_action r.action)
     ∷ []
 
 abbrev pub link_tests : LinkSettings → List Test
 link_tests s =
-    test setting.destination_mac (within (from_to 0 0xFFFFFFFFFFFF) (of64 s.destination))
-    ∷ test setting.source_mac (within (from_to 0 0xFFFFFFFFFFFF) (of64 s.source))
-    ∷ test setting.vlan_id (within (from_to 0 4094) (of16 s.vlan))
-    ∷ test setting.priority (within (from_to 0 7) (of8 s.priority))
-    ∷ test setting.ether_type (within any (of16 s.ether))
-    ∷ test setting.socket (within (from_to 0 1) (of8 s.socket))
+    test setting.DestinationMac (within (from_to 0 0xFFFFFFFFFFFF) s.destination)
+    ∷ test setting.SourceMac (within (from_to 0 0xFFFFFFFFFFFF) s.source)
+    ∷ test setting.VlanId (within (from_to 0 4094) s.vlan)
+    ∷ test setting.Priority (within (from_to 0 7) s.priority)
+    ∷ test setting.EtherType (within any s.ether)
+    ∷ test setting.Socket (within (from_to 0 1) s.socket)
     ∷ []
 
-abbrev pub ipv4_tests : Ipv4Settings → List Test
+abbrev pub ipv4_tests : IpSettings ℕ → List Test
 ipv4_tests s =
-    test setting.ipv4_source (within prefix_good (of_prefix s.source))
-    ∷ test setting.ipv4_destination (within prefix_good (of_prefix s.destination))
-    ∷ test setting.ipv4_protocol (within any (of8 s.protocol))
+    test setting.Ipv4Source (within prefix_good s.source)
+    ∷ test setting.Ipv4Destination (within prefix_good s.destination)
+    ∷ test setting.Ipv4Protocol (within any s.protocol)
     ∷ []
 
 -- "4 also for a rule with both kinds set, at its first IPv6 setting"
-abbrev pub ipv6_tests : Ipv6Settings → Bool → List Test
+abbrev pub ipv6_tests : IpSettings Wide → Bool → List Test
 ipv6_tests s alone =
-    test setting.ipv6_source (ipv6_good prefix6_good (of_prefix6 s.source) alone)
-    ∷ test setting.ipv6_destination (ipv6_good prefix6_good (of_prefix6 s.destination) alone)
-    ∷ test setting.ipv6_protocol (ipv6_good any (of8 s.protocol) alone)
+    test setting.Ipv6Source (ipv6_good prefix6_good s.source alone)
+    ∷ test setting.Ipv6Destination (ipv6_good prefix6_good s.destination alone)
+    ∷ test setting.Ipv6Protocol (ipv6_good any s.protocol alone)
     ∷ []
 
 -- the IP layer: "later settings stand last in their layer"
-abbrev pub ip_tests : Ipv4Settings → Ipv6Settings → List Test
+abbrev pub ip_tests : IpSettings ℕ → IpSettings Wide → List Test
 ip_tests s z = ipv4_tests s ++ ipv6_tests z (no_ipv4 s)
 
 -- "ports without a kind their first range"
 abbrev pub transport_tests : TransportSettings → List Test
 transport_tests s =
-    test setting.kind (within known_kind (of_kind s.kind))
-    ∷ test setting.source_ports (ports_good s.kind s.source)
-    ∷ test setting.destination_ports (ports_good s.kind s.destination)
+    test setting.Kind (within known_kind s.kind)
+    ∷ test setting.SourcePorts (ports_good s.kind s.source)
+    ∷ test setting.DestinationPorts (ports_good s.kind s.destination)
     ∷ []
 
 abbrev pub someip_tests : SomeipSettings → List Test
 someip_tests s =
-    test setting.service (within any (of16 s.service))
-    ∷ test setting.method (within any (of16 s.method))
-    ∷ test setting.protocol_version (within any (of8 s.version))
-    ∷ test setting.message_type (within any (of8 s.kind))
-    ∷ test setting.return_code (within any (of8 s.code))
+    test setting.Service (within any s.service)
+    ∷ test setting.Method (within any s.method)
+    ∷ test setting.ProtocolVersion (within any s.version)
+    ∷ test setting.MessageType (within any s.kind)
+    ∷ test setting.ReturnCode (within any s.code)
     ∷ []
 
 -- "a half pair names its set half"
 abbrev pub rate_tests : RateSettings → List Test
 rate_tests s =
-    test setting.bucket_size (paired (of16 s.size) (of16 s.refill))
-    ∷ test setting.refill (paired (of16 s.refill) (of16 s.size))
+    test setting.BucketSize (paired s.size s.refill)
+    ∷ test setting.Refill (paired s.refill s.size)
     ∷ []
 
 -- each of the four, told whether it may be set
 abbrev pub part_tests : TrackingSettings → Bool → List Test
 part_tests s may =
-    test setting.places (part_good (from_to 1 most_places) (of8 s.places) may)
-    ∷ test setting.idle_limit (part_good (from_to 1 600000) (of32 s.limit) may)
-    ∷ test setting.number0 (part_good (up_to (of8 s.places)) (of8 s.number0) may)
-    ∷ test setting.number1 (part_good (up_to (of8 s.places)) (of8 s.number1) may)
+    test setting.Places (part_good (from_to 1 most_places) s.places may)
+    ∷ test setting.IdleLimit (part_good (from_to 1 600000) s.limit may)
+    ∷ test setting.Number0 (part_good (up_to s.places) s.number0 may)
+    ∷ test setting.Number1 (part_good (up_to s.places) s.number1 may)
     ∷ []
 
 -- "misplaced tracking its first set half", and so does tracking of which some are set and not all
@@ -193,6 +195,6 @@ abbrev pub all_good : List Test → Bool
 all_good l = every_of test_good l
 
 -- "the first setting at fault in 01's order": that of the first test that fails, none where all pass
-abbrev pub fault_in : List Test → SettingNumber
-fault_in [] = setting.none
-fault_in (test n b ∷ l) = cond b (fault_in l) n
+abbrev pub fault_in : List Test → Result ⊤ SettingNumber
+fault_in [] = Ok tt
+fault_in (test n b ∷ l) = cond b (fault_in l) (Err n)

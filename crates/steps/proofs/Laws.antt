@@ -23,8 +23,6 @@ use Rattle.layers.proofs.Laws.{shows_is}
 use Rattle.table.specs.declared.Table.{Table}
 use Rattle.faults.specs.declared.Fault.TheVariants as fault
 use Rattle.table.specs.declared.Rule.{Rule}
-use Rattle.table.specs.declared.Tracking.{Tracking}
-use Rattle.table.specs.declared.Tracking.TheVariants as tracking
 use Rattle.table.specs.Table.{rule_at, tracking_of}
 use Rattle.ranges.specs.Ranges.{rule_tests, all_good}
 use Rattle.faults.specs.Faults.{fresh_id, fault_of}
@@ -51,6 +49,8 @@ use Rattle.steps.specs.declared.Answer.{Answer}
 use Rattle.steps.specs.declared.Report.{Report}
 use Rattle.steps.specs.declared.Report.TheVariants as report
 use Rattle.steps.specs.Steps.{quad_of, turn_in, turn_of, id_at, event_for, best_event, event_of, outcome_of, stepped, stepped_as}
+use Rattle.table.specs.declared.Room.{Room}
+use Rattle.std.specs.Prelude.{Option, Some, None}
 
 -- ---- who decides
 
@@ -59,9 +59,9 @@ pub decider_rule : (t : Table) (state : ℕ) (x : Seen) → Decider t (decider_o
 decider_rule t state x h = (decider_is t state x (decider_of t state x) refl h).0
 
 -- a good rule has at most eight places
-tracks : (r : Rule) (fresh : Bool) → all_good (rule_tests fresh r) ≡ true → (k : Tracking) → tracking_of r ≡ k → places_in k ≤ 8
-tracks r fresh h tracking.Unset e = omega arith
-tracks r fresh h (tracking.Set m) e = (good_tracking fresh r h m e).1
+tracks : (r : Rule) (fresh : Bool) → all_good (rule_tests fresh r) ≡ true → (k : Option Room) → tracking_of r ≡ k → places_in k ≤ 8
+tracks r fresh h None e = omega arith
+tracks r fresh h (Some m) e = (good_tracking fresh r h m e).1
 
 pub few_places :
     (t : Table) (state : ℕ) (x : Seen) (d : ℕ) → fault_of t ≡ fault.Good → d ≡ decider_of t state x → d < 64

@@ -12,33 +12,16 @@ use lib.Pow.{shr-shr, mod-pow-add}
 use Rattle.numbers.specs.Lists.{every}
 use Rattle.table.specs.Bits.{source_prefix_mark, source6_prefix_mark, service_mark}
 use Rattle.table.specs.Marks.{ipv4_unset, ipv6_unset, someip_unset}
-use Rattle.table.specs.Settings.{of8, of16, of_prefix, of_prefix6, is_unset}
+use Rattle.table.specs.Settings.{is_unset}
 use Rattle.table.specs.Table.{marked}
 use Rattle.table.specs.Words.{ip_word, someip_word, word, is_set, setting8_in, setting16_in, prefix_in, prefix6_in, ipv4_in, ipv6_in, someip_in}
-use Rattle.table.specs.declared.Setting8.TheVariants as set8
-use Rattle.table.specs.declared.Setting16.TheVariants as set16
-use Rattle.table.specs.declared.Prefix.{Prefix}
-use Rattle.table.specs.declared.PrefixSetting.TheVariants as set_prefix
-use Rattle.table.specs.declared.Prefix6.{Prefix6}
-use Rattle.table.specs.declared.Prefix6Setting.TheVariants as set_prefix6
+use Rattle.table.specs.declared.Setting.TheVariants.{Unset as unset, Set as set}
 
 -- ---- one setting
 
-unset8 : (b : Bool) (v : ℕ) → is_unset (of8 (cond b (set8.Set v) set8.Unset)) ≡ not b
-unset8 true v = refl
-unset8 false v = refl
-
-unset16 : (b : Bool) (v : ℕ) → is_unset (of16 (cond b (set16.Set v) set16.Unset)) ≡ not b
-unset16 true v = refl
-unset16 false v = refl
-
-unset_prefix : (b : Bool) (v : Prefix) → is_unset (of_prefix (cond b (set_prefix.Set v) set_prefix.Unset)) ≡ not b
-unset_prefix true v = refl
-unset_prefix false v = refl
-
-unset_prefix6 : (b : Bool) (v : Prefix6) → is_unset (of_prefix6 (cond b (set_prefix6.Set v) set_prefix6.Unset)) ≡ not b
-unset_prefix6 true v = refl
-unset_prefix6 false v = refl
+unset_marked : {A : Type 0} (b : Bool) (v : A) → is_unset (cond b (set v) unset) ≡ not b
+unset_marked true v = refl
+unset_marked false v = refl
 
 -- ---- marks side by side
 
@@ -96,22 +79,22 @@ module _ (w : List ℕ) where
   unfolding setting8_in prefix_in
   ipv4_none =
       sym (none_marked (word w ip_word) source_prefix_mark 3)
-      ∙ rw (unset_prefix (is_set w ip_word 0) _, unset_prefix (is_set w ip_word 1) _, unset8 (is_set w ip_word 2) _) refl
+      ∙ rw (unset_marked (is_set w ip_word 0) _, unset_marked (is_set w ip_word 1) _, unset_marked (is_set w ip_word 2) _) refl
 
   pub ipv6_none : eqb (word w ip_word / 2 ^ source6_prefix_mark % 8) 0 ≡ every (ipv6_unset (ipv6_in w))
   unfolding setting8_in prefix6_in
   ipv6_none =
       sym (none_marked (word w ip_word) source6_prefix_mark 3)
-      ∙ rw (unset_prefix6 (is_set w ip_word 3) _, unset_prefix6 (is_set w ip_word 4) _, unset8 (is_set w ip_word 5) _) refl
+      ∙ rw (unset_marked (is_set w ip_word 3) _, unset_marked (is_set w ip_word 4) _, unset_marked (is_set w ip_word 5) _) refl
 
   pub someip_none : eqb (word w someip_word / 2 ^ service_mark % 32) 0 ≡ every (someip_unset (someip_in w))
   unfolding setting8_in setting16_in
   someip_none =
       sym (none_marked (word w someip_word) service_mark 5)
       ∙ rw (
-        unset16 (is_set w someip_word 0) _,
-        unset16 (is_set w someip_word 1) _,
-        unset8 (is_set w someip_word 2) _,
-        unset8 (is_set w someip_word 3) _,
-        unset8 (is_set w someip_word 4) _,
+        unset_marked (is_set w someip_word 0) _,
+        unset_marked (is_set w someip_word 1) _,
+        unset_marked (is_set w someip_word 2) _,
+        unset_marked (is_set w someip_word 3) _,
+        unset_marked (is_set w someip_word 4) _,
       ) refl

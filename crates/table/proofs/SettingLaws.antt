@@ -5,7 +5,9 @@ use mathlib.Core.Bool.{Bool, true, false≢true}
 use borrow.Author.Tests.{eqb-true, eq-eqb, leb-true, le-leb}
 use lib.Dec.{leb}
 use Rattle.numbers.proofs.Lists.{and_both, and_true_true}
-use Rattle.table.specs.Settings.{Setting, unset, set, is_unset, agrees}
+use Rattle.table.specs.Settings.{is_unset, agrees}
+use Rattle.table.specs.declared.Setting.{Setting}
+use Rattle.table.specs.declared.Setting.TheVariants.{Unset as unset, Set as set}
 use Rattle.table.specs.Meaning.{UnsetAgrees, SetAgrees, RangeAgrees}
 
 pub unset_agrees : {A X : Type 0} (f : A → X → Bool) (s : Setting A) (x : X) → is_unset s ≡ true → agrees f s x ≡ true

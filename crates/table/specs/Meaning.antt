@@ -1,7 +1,9 @@
 -- What a setting means, said once over the width and the type of its value. Document 01, 'Ranges, prefixes and unset settings are proved once over the width'; of prefixes see Meaning of `addresses`.
 -- Assumes nothing.
 use Rattle.std.specs.Prelude.{ℕ, ◌≤◌, ◌↔◌, ◌≡◌, Bool, true, eqb}
-use Rattle.table.specs.Settings.{Setting, set, is_unset, agrees, in_range}
+use Rattle.table.specs.Settings.{is_unset, agrees, in_range}
+use Rattle.table.specs.declared.Setting.{Setting}
+use Rattle.table.specs.declared.Setting.TheVariants.{Set as set}
 use Rattle.table.specs.declared.Range.{Range}
 
 -- "An unset setting" asks nothing: it agrees with whatever a frame shows

@@ -15,8 +15,6 @@ use Rattle.table.specs.declared.Rule.{Rule}
 use Rattle.table.specs.declared.Table.{Table}
 use Rattle.faults.specs.declared.Fault.TheVariants as fault
 use Rattle.table.specs.declared.Room.{Room}
-use Rattle.table.specs.declared.Tracking.{Tracking}
-use Rattle.table.specs.declared.Tracking.TheVariants as tracking
 use Rattle.table.specs.Table.{rule_at, state_at, is_allow, bucket_of, tracking_of}
 use Rattle.faults.specs.Faults.{fault_of}
 use Rattle.faults.proofs.Good.{good_count}
@@ -73,6 +71,8 @@ use Rattle.theorems.specs.Passes.{
   PassesExactly,
 }
 use Rattle.theorems.proofs.Calls.{outcome, judge_two}
+use Rattle.std.specs.Prelude.{Option}
+use Rattle.std.specs.Prelude.{Some, None}
 
 -- ---- the decider is the first match, or the default where there is none
 
@@ -173,9 +173,9 @@ flags_tell : (m : Room) (q : Quad) (ps : List Place) (f : Flags) → Tells (flag
 flags_tell m q ps flags.Wrong = omega arith
 flags_tell m q ps (flags.Kind k) = step_tells m q ps k
 
-tracked_tells : (k : Tracking) (g : Turn) (ps : List Place) → Tells (tracking_holds k g ps) (says (tracked k g ps))
-tracked_tells tracking.Unset g ps = refl
-tracked_tells (tracking.Set m) g ps = flags_tell m g.quad ps g.flags
+tracked_tells : (k : Option Room) (g : Turn) (ps : List Place) → Tells (tracking_holds k g ps) (says (tracked k g ps))
+tracked_tells None g ps = refl
+tracked_tells (Some m) g ps = flags_tell m g.quad ps g.flags
 
 -- what a rule asks, in one test
 abbrev rule_holds : Rule → Turn → RuleRecord → Bool

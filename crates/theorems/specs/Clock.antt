@@ -7,8 +7,6 @@ use Rattle.layers.specs.Seen.{seen}
 use Rattle.layers.specs.declared.Layers.{Layers}
 use Rattle.layers.specs.declared.Shown.TheVariants as shown
 use Rattle.table.specs.declared.Table.{Table}
-use Rattle.table.specs.declared.Bucket.TheVariants as bucket
-use Rattle.table.specs.declared.Tracking.TheVariants as tracking
 use Rattle.table.specs.Table.{rule_at, bucket_of, tracking_of}
 use Rattle.deciding.specs.Decider.{decider_of}
 use Rattle.records.specs.Records.{Lent, records_of, default, Shaped}
@@ -16,6 +14,7 @@ use Rattle.steps.specs.Steps.{Arrival, arrival, is_second}
 use Rattle.firewall.specs.Firewall.{After, judge_of}
 use Rattle.theorems.specs.Run.{Item, arrives, switches, go, tell}
 use Rattle.theorems.specs.Statements.{is_answer}
+use Rattle.std.specs.Prelude.{None}
 
 -- words that differ in the last reading alone
 pub record ButLast (v w : Lent) : Type 0 where
@@ -38,7 +37,7 @@ ClockBack =
 
 -- the default, or a rule without bucket and tracking
 abbrev pub Plain : Table → ℕ → Type 0
-Plain t d = d < default → (bucket_of (rule_at t d) ≡ bucket.Unset) × (tracking_of (rule_at t d) ≡ tracking.Unset)
+Plain t d = d < default → (bucket_of (rule_at t d) ≡ None) × (tracking_of (rule_at t d) ≡ None)
 
 -- a frame that such a decider decides is answered alike at every reading
 abbrev pub ClockFree : Type 0

@@ -9,8 +9,6 @@ use Rattle.layers.specs.declared.Shown.TheVariants as shown
 use Rattle.table.specs.declared.Room.{Room}
 use Rattle.table.specs.declared.Rule.{Rule}
 use Rattle.table.specs.declared.Table.{Table}
-use Rattle.table.specs.declared.Tracking.{Tracking}
-use Rattle.table.specs.declared.Tracking.TheVariants as tracking
 use Rattle.table.specs.Table.{rule_at, state_at, active, is_allow, bucket_of, tracking_of}
 use Rattle.matching.specs.Matching.{rule_matches}
 use Rattle.flags.specs.declared.FlagKind.{FlagKind}
@@ -30,6 +28,8 @@ use Rattle.verdicts.specs.Rule.{allowed, allowed_by_default, level_of, raised, o
 use Rattle.records.specs.Step.{ticked}
 use Rattle.steps.specs.Steps.{Arrival, seen_of, turn_of}
 use Rattle.firewall.specs.Firewall.{answered, judge_of}
+use Rattle.std.specs.Prelude.{Option}
+use Rattle.std.specs.Prelude.{Some, None}
 
 -- ---- "the first active rule that matches it"; x is what is seen of the frame
 
@@ -81,9 +81,9 @@ flags_hold m q ps flags.Wrong = false
 flags_hold m q ps (flags.Kind k) = step_holds m q ps k
 
 -- there is no tracking, or it holds
-abbrev pub tracking_holds : Tracking → Turn → List Place → Bool
-tracking_holds tracking.Unset g ps = true
-tracking_holds (tracking.Set m) g ps = flags_hold m g.quad ps g.flags
+abbrev pub tracking_holds : Option Room → Turn → List Place → Bool
+tracking_holds None g ps = true
+tracking_holds (Some m) g ps = flags_hold m g.quad ps g.flags
 
 -- ---- "A frame passes exactly when .."
 

@@ -6,7 +6,7 @@ use Rattle.table.specs.Words.{rule_in}
 use Rattle.table.specs.declared.Rule.{Rule}
 use Rattle.table.specs.declared.Table.{Table}
 use Rattle.numbers.specs.Lists.{first_from, first}
-use Rattle.faults.specs.declared.Fault.TheVariants as fault
+use Rattle.std.specs.Prelude.{Result, Ok, Err, ⊤}
 use Rattle.table.proofs.Rows.{rule_at_lem}
 use Rattle.faults.proofs.Ids.{listed_fresh}
 use Rattle.faults.proofs.FirstFault.{fault_count, fault_here, fault_next, fault_states}
@@ -20,7 +20,7 @@ use Rattle.faults.proofs.first_fault.Goals as goal
 
 -- what is at fault in a row, its id among the table's, is so in the rule there
 row-fault :
-    (t : List (List ℕ)) (l : List ℕ) (i n : ℕ) (b : Bool) {m : SettingNumber} → i < n → n ≤ most_rules → Listed (table_in t) l n
+    (t : List (List ℕ)) (l : List ℕ) (i n : ℕ) (b : Bool) {m : Result ⊤ SettingNumber} → i < n → n ≤ most_rules → Listed (table_in t) l n
     → b ≡ all_below (λ j. not (eqb (get_or l j 0) (get_or l i 0))) i → m ≡ fault_in (rule_tests b (rule_in (get_or t i []))) → m ≡ fault_in (tests_at (table_in t) i)
 row-fault t l i n b h k s f e =
     e
@@ -31,7 +31,7 @@ row-fault t l i n b h k s f e =
 ended :
     (t : Table) (i n m : ℕ) (b : Bool) → n ≤ most_rules → n ≤ i → n ≡ t.rulecount → m ≡ t.statecount
     → first_from (faulty t) i (t.rulecount - i) ≡ first (faulty t) t.rulecount
-    → b ≡ states_good n m t.states → cond b fault.Good (fault.At table_fault) ≡ fault_of t
+    → b ≡ states_good n m t.states → cond b (Ok tt) (Err table_fault) ≡ fault_of t
 ended t i n m b small h e f g k =
     fault_states t (omega (arith, e)) i b (omega (arith, e)) g
     (k ∙ ap (λ (x : ℕ). states_good x m t.states) e ∙ ap (λ (x : ℕ). states_good t.rulecount x t.states) f)
@@ -39,12 +39,12 @@ ended t i n m b small h e f g k =
 pub returns-then-count-gt-RULES : goal.returns-then-count-gt-RULES
 returns-then-count-gt-RULES c = fault_count (table_in c.args.t.now) (omega (arith, c.if-count-gt-RULES.true, c.rulecount-count.ensures))
 
-pub returns-then-setting : goal.returns-then-setting
-returns-then-setting c =
+pub returns-in-Err : goal.returns-in-Err
+returns-in-Err c =
     let t = table_in c.args.t.now in
-    fault_here t (omega (arith, c.loop-i.invariant.1, c.if-count-gt-RULES.false)) c.loop-i.i
-    (omega (arith, c.loop-i.invariant.1, c.loop-i-test.true)) c.loop-i.invariant.2 (row-fault c.args.t.now c.ids_of-ids.result c.loop-i.i c.rulecount-count.result c.is_new.result
-    c.loop-i-test.true (omega (arith, c.if-count-gt-RULES.false)) c.ids_of-ids.ensures c.is_new.ensures c.rule_fault-setting.ensures) c.if-setting.true
+    fault_here t (omega (arith, c.loop-i.invariant.1, c.if-count-gt-RULES.false)) c.loop-i.i c.in-Err.setting
+    (omega (arith, c.loop-i.invariant.1, c.loop-i-test.true)) c.loop-i.invariant.2 (sym (row-fault c.args.t.now c.ids_of-ids.result c.loop-i.i c.rulecount-count.result c.is_new.result
+    c.loop-i-test.true (omega (arith, c.if-count-gt-RULES.false)) c.ids_of-ids.ensures c.is_new.ensures c.rule_fault.ensures) ∙ c.in-Err.is)
 
 pub loop-i-preserved : goal.loop-i-preserved
 loop-i-preserved c =
@@ -52,8 +52,8 @@ loop-i-preserved c =
       omega arith,
       c.loop-i.invariant.1,
       fault_next t (omega (arith, c.loop-i.invariant.1, c.if-count-gt-RULES.false)) c.loop-i.i
-          (omega (arith, c.loop-i.invariant.1, c.loop-i-test.true)) c.loop-i.invariant.2 (row-fault c.args.t.now c.ids_of-ids.result c.loop-i.i c.rulecount-count.result c.is_new.result
-          c.loop-i-test.true (omega (arith, c.if-count-gt-RULES.false)) c.ids_of-ids.ensures c.is_new.ensures c.rule_fault-setting.ensures) c.if-setting.false,
+          (omega (arith, c.loop-i.invariant.1, c.loop-i-test.true)) c.loop-i.invariant.2 (sym (row-fault c.args.t.now c.ids_of-ids.result c.loop-i.i c.rulecount-count.result c.is_new.result
+          c.loop-i-test.true (omega (arith, c.if-count-gt-RULES.false)) c.ids_of-ids.ensures c.is_new.ensures c.rule_fault.ensures) ∙ c.in_default.is),
     )
 
 pub returns-then-states_good : goal.returns-then-states_good

@@ -10,6 +10,3 @@ invariant-loop-i l =
     (l.i ≤ l.count)
     × (l.count ≡ (table_in l.t).rulecount)
     × (first_from (faulty (table_in l.t)) l.i ((table_in l.t).rulecount - l.i) ≡ first (faulty (table_in l.t)) (table_in l.t).rulecount)
-
-abbrev pub decreases-loop-i : goal.decreases-loop-i
-decreases-loop-i l = l.count - l.i

@@ -6,20 +6,18 @@ use Rattle.lay.proofs.rule.Goals as goal
 
 pub returns : goal.returns
 returns c =
-    let t = c in
-    let m = t in
-    let a = m.address6-to.ensures in
-    let b = m.address6-from.ensures in
+    let a = c.address6-from.ensures in
+    let b = c.address6-to.ensures in
     rule_laid _ (record {
-      rule = m.rule_word.ensures;
-      link = m.link_word.ensures;
-      destination = m.value64.ensures;
-      source = t.value64-2.ensures;
-      ip = t.ip_word.ensures;
-      address = t.address_word.ensures;
-      source6 = record { high = ap (λ (x : Wide). x.high) b; low = ap (λ (x : Wide). x.low) b };
-      destination6 = record { high = ap (λ (x : Wide). x.high) a; low = ap (λ (x : Wide). x.low) a };
-      transport = t.transport_word.ensures;
+      rule = c.rule_word.ensures;
+      link = c.link_word.ensures;
+      destination = c.value_or.ensures;
+      source = c.value_or-2.ensures;
+      ip = c.ip_word.ensures;
+      address = c.address_word.ensures;
+      source6 = record { high = ap (λ (x : Wide). x.high) a; low = ap (λ (x : Wide). x.low) a };
+      destination6 = record { high = ap (λ (x : Wide). x.high) b; low = ap (λ (x : Wide). x.low) b };
+      transport = c.transport_word.ensures;
       port = c.port_word.ensures;
       someip = c.someip_word.ensures;
       rate = c.rate_word.ensures;

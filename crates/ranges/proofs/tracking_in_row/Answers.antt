@@ -13,17 +13,17 @@ returns-then-none_set c =
     let w = c.args.r.now in
     tracking_unset_lem w c.if-none_set.true c.none_set.ensures (may_track (rule_in w))
 
-pub returns-in-Unset : goal.returns-in-Unset
-returns-in-Unset c =
+pub returns-in-None : goal.returns-in-None
+returns-in-None c =
     let w = c.args.r.now in
     c.part_fault.ensures
     ∙ ap (λ (s : TrackingSettings). fault_in (part_tests s false)) c.tracking_settings.ensures
-    ∙ fault_unset w (may_track (rule_in w)) (sym c.tracking-k.ensures ∙ c.in-Unset.is)
+    ∙ fault_unset w (may_track (rule_in w)) (sym c.tracking.ensures ∙ c.in-None.is)
 
-pub returns-in-Set : goal.returns-in-Set
-returns-in-Set c =
+pub returns-in-Some : goal.returns-in-Some
+returns-in-Some c =
     let w = c.args.r.now in
-    let m = c.in-Set.m in
+    let m = c.in-Some.m in
     c.room_fault.ensures
     ∙ ap (λ (b : Bool). fault_in (part_tests (all_of m) b)) c.may_track.ensures
-    ∙ fault_set w (may_track (rule_in w)) m (sym c.tracking-k.ensures ∙ c.in-Set.is)
+    ∙ fault_set w (may_track (rule_in w)) m (sym c.tracking.ensures ∙ c.in-Some.is)

@@ -1,6 +1,0 @@
-use Rattle.numbers.proofs.Laws.{be_two}
-use native.Mathlib.Omega.{arith}
-use Rattle.numbers.proofs.read48.Goals as goal
-
-pub returns : goal.returns
-returns c = let a = c.args in omega (arith, be_two 2 4 a.s.now a.at)
