@@ -16,8 +16,7 @@ use Rattle.capture.specs.Capture.{Item, Cut, Refused, Frame, header_size, head_s
 use Rattle.capture.specs.Parts.{longest, headed, passes, record_move, move_of, items_in, Moves, last, then, moves_of, AtHand, kept, AtRest, calls, go_on, end_of, end_items, at_end, as_found}
 use Rattle.capture.specs.declared.Form.{Form}
 use Rattle.capture.specs.declared.Head.{Head}
-use Rattle.capture.specs.declared.Header.{Header}
-use Rattle.capture.specs.declared.Header.TheVariants as header
+use Rattle.std.specs.Prelude.{Option, None, Some}
 use Rattle.capture.specs.declared.RecordRefusal.{RecordRefusal}
 use Rattle.capture.specs.declared.RecordRefusal.TheVariants as refusal
 use Rattle.capture.specs.declared.State.{State}
@@ -126,17 +125,17 @@ module _ (f : Form) (s : List ℕ) (here : head_size ≤ length s) where
 -- ---- the file header
 
 -- the items of a capture whose file header is at hand
-header_tells : (s u : List ℕ) (h : Header) → header_size ≤ length s → header_of s ≡ h → items_of (s ++ u) ≡ behind h (s ++ u)
+header_tells : (s u : List ℕ) (h : Option Form) → header_size ≤ length s → header_of s ≡ h → items_of (s ++ u) ≡ behind h (s ++ u)
 unfolding items_of
 header_tells s u h here e =
     let long : header_size ≤ length (s ++ u) = omega (arith, length-append s u) in
     rw (le-ltb _ _ long, header_front s u here, e)
 
-headed_same : (s : List ℕ) (h : Header) → header_size ≤ length s → header_of s ≡ h → Same state.Start s (headed h)
+headed_same : (s : List ℕ) (h : Option Form) → header_size ≤ length s → header_of s ≡ h → Same state.Start s (headed h)
 unfolding ahead as_found
-headed_same s header.Bad here e u = ap (map as_found) (header_tells s u header.Bad here e)
-headed_same s (header.Good f) here e u =
-    ap (map as_found) (header_tells s u (header.Good f) here e) ∙ rw (drop-append-le header_size s u here)
+headed_same s None here e u = ap (map as_found) (header_tells s u None here e)
+headed_same s (Some f) here e u =
+    ap (map as_found) (header_tells s u (Some f) here e) ∙ rw (drop-append-le header_size s u here)
 
 -- ---- every move
 
@@ -161,9 +160,9 @@ start_waits s =
     (λ e h. ltb-true _ _ e)
     (λ e h. absurd (by_header (header_of s) h))
   where
-    by_header : (x : Header) → (headed x).more ≡ true → ⊥
-    by_header header.Bad h = false≢true h
-    by_header (header.Good f) h = false≢true h
+    by_header : (x : Option Form) → (headed x).more ≡ true → ⊥
+    by_header None h = false≢true h
+    by_header (Some f) h = false≢true h
 
 -- a record is not all here, and what is here is short
 record_waits :
@@ -239,9 +238,9 @@ kept_short state.Done s h = omega arith
 abbrev Within : List ℕ → Move → Type 0
 Within s m = (m.used ≤ length s) × AtHand m.found s
 
-headed_within : (s : List ℕ) (h : Header) → header_size ≤ length s → Within s (headed h)
-headed_within s header.Bad l = (l, tt)
-headed_within s (header.Good f) l = (l, tt)
+headed_within : (s : List ℕ) (h : Option Form) → header_size ≤ length s → Within s (headed h)
+headed_within s None l = (l, tt)
+headed_within s (Some f) l = (l, tt)
 
 pub move_within : (st : State) (s : List ℕ) → Within s (move_of st s)
 unfolding move_of record_move

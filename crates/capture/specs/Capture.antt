@@ -1,13 +1,12 @@
 -- A classic pcap capture, as the list s of all its bytes: the items that it holds, one for each line that is printed.
 -- Change request 4/12, "The recording on the yard's PC".
 -- Assumes nothing.
-use Rattle.std.specs.Prelude.{ℕ, zero, suc, ◌+◌, ◌*◌, ◌/◌, List, [], ◌∷◌, Bool, cond, true, false, length, take, drop, ltb, eqb}
+use Rattle.std.specs.Prelude.{ℕ, zero, suc, ◌+◌, ◌*◌, ◌/◌, List, [], ◌∷◌, Bool, cond, true, false, Option, None, Some, length, take, drop, ltb, eqb}
+use Rattle.std.specs.List.{find}
 use Rattle.numbers.specs.Lists.{every}
 use Rattle.capture.specs.Fields.{number_at}
 use Rattle.capture.specs.declared.Form.{Form}
 use Rattle.capture.specs.declared.Head.{Head}
-use Rattle.capture.specs.declared.Header.{Header}
-use Rattle.capture.specs.declared.Header.TheVariants as header
 use Rattle.capture.specs.declared.RecordRefusal.{RecordRefusal}
 use Rattle.capture.specs.declared.RecordRefusal.TheVariants as refusal
 
@@ -50,12 +49,12 @@ abbrev pub form : Bool → Bool → Form
 form big nano = record { big = big; nano = nano }
 
 -- "both byte orders, micro- and nanosecond magic"
-unfoldable pub header_of : List ℕ → Header
-header_of s =
-    cond (is_of (form true false) s) (header.Good (form true false))
-    (cond (is_of (form true true) s) (header.Good (form true true))
-    (cond (is_of (form false false) s) (header.Good (form false false))
-    (cond (is_of (form false true) s) (header.Good (form false true)) header.Bad)))
+abbrev pub forms : List Form
+forms = form true false ∷ form true true ∷ form false false ∷ form false true ∷ []
+
+-- the one that the header is of
+unfoldable pub header_of : List ℕ → Option Form
+header_of s = find (λ f. is_of f s) forms
 
 -- ---- a record: its own header, then the stored bytes
 
@@ -105,9 +104,9 @@ unfoldable pub stored_in : Form → List ℕ → List Item
 stored_in f s = stored_by (length s) f s
 
 -- what stands behind the file header; "8 for a bad or short file header, alone"
-abbrev pub behind : Header → List ℕ → List Item
-behind header.Bad s = BadHeader ∷ []
-behind (header.Good f) s = stored_in f (drop header_size s)
+abbrev pub behind : Option Form → List ℕ → List Item
+behind None s = BadHeader ∷ []
+behind (Some f) s = stored_in f (drop header_size s)
 
 -- THE DEFINITION: the items of a capture
 unfoldable pub items_of : List ℕ → List Item

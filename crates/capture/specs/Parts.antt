@@ -1,12 +1,10 @@
 -- "It reads by parts and answers as for the whole": what one call finds in the bytes at hand, what is kept between two calls, and the theorem.
 -- Assumes nothing.
-use Rattle.std.specs.Prelude.{ℕ, zero, suc, ◌+◌, ◌-◌, ◌≤◌, ◌≡◌, List, [], ◌∷◌, ◌++◌, map, Bool, cond, true, false, length, take, drop, ltb, eqb}
+use Rattle.std.specs.Prelude.{ℕ, zero, suc, ◌+◌, ◌-◌, ◌≤◌, ◌≡◌, List, [], ◌∷◌, ◌++◌, map, Bool, cond, true, false, Option, None, Some, length, take, drop, ltb, eqb}
 use Rattle.numbers.specs.Lists.{joined, ends, said}
 use Rattle.capture.specs.Capture.{Item, BadHeader, Cut, Refused, Frame, header_size, head_size, header_of, head_of, refusal_number, items_of}
 use Rattle.capture.specs.declared.Form.{Form}
 use Rattle.capture.specs.declared.Head.{Head}
-use Rattle.capture.specs.declared.Header.{Header}
-use Rattle.capture.specs.declared.Header.TheVariants as header
 use Rattle.capture.specs.declared.RecordRefusal.{RecordRefusal}
 use Rattle.capture.specs.declared.RecordRefusal.TheVariants as refusal
 use Rattle.capture.specs.declared.State.{State}
@@ -32,9 +30,9 @@ abbrev pub goes : State → ℕ → Found → Move
 goes st n x = record { state = st; used = n; found = x; more = false }
 
 -- the file header
-abbrev pub headed : Header → Move
-headed header.Bad = goes state.Done header_size found.BadHeader
-headed (header.Good f) = goes (state.Records f) header_size found.Nothing
+abbrev pub headed : Option Form → Move
+headed None = goes state.Done header_size found.BadHeader
+headed (Some f) = goes (state.Records f) header_size found.Nothing
 
 -- a record that is refused by its header alone: its bytes are passed over
 abbrev pub passes : Form → Head → RecordRefusal → Move

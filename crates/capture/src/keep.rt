@@ -9,11 +9,6 @@ pub fn keep(buf: &mut [u8], at: usize, end: usize) -> usize
     requires inside { end ≤ length buf.old }
     ensures { Wrote (take (end - at) (drop at buf.old)) buf.old buf.new result }
 {
-    let n = end - at;
-    let mut i = 0;
-    while i < n {
-        buf[i] = buf[at + i];
-        i += 1;
-    }
-    n
+    buf.copy_within(at..end, 0);
+    end - at
 }

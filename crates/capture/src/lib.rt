@@ -16,13 +16,6 @@ pub struct Form {
     pub nano: bool,
 }
 
-// What the file header says.
-#[derive(Clone, Copy)]
-pub enum Header {
-    Bad,
-    Good(Form),
-}
-
 // What a record's header says: the time in ms, the bytes that are stored, and those that there were on the wire.
 #[derive(Clone, Copy)]
 pub struct Head {

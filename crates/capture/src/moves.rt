@@ -41,6 +41,7 @@ fn pass(f: Form, h: Head, why: RecordRefusal) -> Move
 }
 
 // A record whose header is at hand.
+#[tactic(auto, unfolding(crate::specs::Parts::record_move))]
 fn move_by(f: Form, h: Head, s: &[u8]) -> Move
     ensures { result ≡ record_move f h s.now }
 {
@@ -65,6 +66,7 @@ fn move_by(f: Form, h: Head, s: &[u8]) -> Move
     }
 }
 
+#[tactic(auto, unfolding(crate::specs::Parts::move_of))]
 fn move_record(f: Form, s: &[u8]) -> Move
     ensures { result ≡ move_of (State.Records f) s.now }
 {
@@ -74,21 +76,21 @@ fn move_record(f: Form, s: &[u8]) -> Move
     move_by(f, read_head(f, s), s)
 }
 
+#[tactic(auto, unfolding(crate::specs::Parts::move_of))]
 fn move_header(s: &[u8]) -> Move
     ensures { result ≡ move_of State.Start s.now }
 {
     if s.len() < FILE_HEADER {
         return wait(State::Start);
     }
-    let h = read_header(s);
-    match h {
-        Header::Bad => Move {
+    match read_header(s) {
+        None => Move {
             state: State::Done,
             used: FILE_HEADER,
             found: Found::BadHeader,
             more: false,
         },
-        Header::Good(f) => Move {
+        Some(f) => Move {
             state: State::Records(f),
             used: FILE_HEADER,
             found: Found::Nothing,
@@ -98,6 +100,7 @@ fn move_header(s: &[u8]) -> Move
 }
 
 // Passes over the bytes of a refused record, of which `left` are to come.
+#[tactic(auto, unfolding(crate::specs::Parts::move_of))]
 fn move_passing(f: Form, time: u64, why: RecordRefusal, left: usize, s: &[u8]) -> Move
     ensures { result ≡ move_of (State.Passing f time why left) s.now }
 {
@@ -126,6 +129,7 @@ fn move_passing(f: Form, time: u64, why: RecordRefusal, left: usize, s: &[u8]) -
 /// One move on the bytes at hand: what is found at their start, and how many of them it used. A caller makes moves, each on what the
 /// one before left, until one says `more`; then it keeps what was not used, puts the next bytes behind it, and goes on.
 /// What is kept so is less than a record's header and the longest frame, 1,534 bytes (`KeepsLittle`, specs/Meaning).
+#[tactic(auto, unfolding(crate::specs::Parts::move_of))]
 pub fn next_move(st: State, s: &[u8]) -> Move
     ensures { result ≡ move_of st s.now }
 {
@@ -148,18 +152,14 @@ pub fn next_move(st: State, s: &[u8]) -> Move
 }
 
 /// What the end of the capture adds, where `n` bytes were not used and no more come.
+#[tactic(auto, unfolding(crate::specs::Parts::end_of))]
 pub fn end_of(st: State, n: usize) -> End
     ensures { result ≡ end_of st n }
 {
     match st {
         State::Start => End::BadHeader,
         State::Records(_) => { if n == 0 { End::Whole } else { End::Cut } }
-        State::Passing {
-            form: _,
-            time: _,
-            why: _,
-            left: _,
-        } => End::Cut,
+        State::Passing { .. } => End::Cut,
         State::Done => End::Whole,
     }
 }

@@ -11,8 +11,6 @@ use lib.Dec.{ltb}
 use borrow.Author.Tests.{lt-ltb, ltb-true, ltb-false}
 use Rattle.numbers.specs.Lists.{All}
 use Rattle.numbers.proofs.Lists.{cond_both, first_holds, first_before}
-use Rattle.table.specs.declared.Tracking.{Tracking}
-use Rattle.table.specs.declared.Tracking.TheVariants as tracking
 use Rattle.table.specs.declared.Room.{Room}
 use Rattle.table.specs.Table.{number_of}
 use Rattle.places.specs.Places.{Place, free, is_free, Fits, holds, of_socket, held_by, phase_of, held_as}
@@ -22,8 +20,6 @@ use Rattle.places.specs.Good.{room_in, fits_kind}
 use Rattle.places.specs.declared.Quad.{Quad}
 use Rattle.flags.specs.declared.FlagKind.{FlagKind}
 use Rattle.flags.specs.declared.FlagKind.TheVariants as kind
-use Rattle.flags.specs.declared.Flags.{Flags}
-use Rattle.flags.specs.declared.Flags.TheVariants as flags
 use Rattle.flags.specs.declared.Phase.{Phase}
 use Rattle.flags.specs.declared.Phase.TheVariants as phase
 use Rattle.flags.specs.declared.Next.{Next}
@@ -35,6 +31,7 @@ use Rattle.places.proofs.PlaceLaws.{free_fits}
 use Rattle.conversations.proofs.TrackLaws.{seat_below, seat_at}
 use Rattle.places.proofs.PlacesLaws.{at, PlacesGood, held_clean, set_good, set_free, phase_held, held_fits}
 use Rattle.places.proofs.HoldLaws.{holds_is, free_holds, of_is, is_of_lem}
+use Rattle.std.specs.Prelude.{Option, Some, None}
 
 -- the place that a new conversation takes: one of the rule's, free, and its socket is below its number
 pub record Taken (m : Room) (second : Bool) (ps : List Place) (i : ℕ) : Type 0 where
@@ -86,23 +83,23 @@ module _ (m : Room) (g : Turn) (ps : List Place) (P : List Place → Type 0) (st
           by_less j (length ps) (λ n. first_before (λ j. holds g.quad (at ps j)) (length ps) j (omega arith))
           (λ n. free_holds g.quad (at ps j) (ap is_free (get_or-eq_default ps free n)))
 
-  pub tracked_by : P (tracked (tracking.Set m) g ps).places
+  pub tracked_by : P (tracked (Some m) g ps).places
   tracked_by = by g.flags
     where
-      by : (x : Flags) → P (tracked_in m g.quad ps x).places
-      by flags.Wrong = stays
-      by (flags.Kind k) = step_by k
+      by : (x : Option FlagKind) → P (tracked_in m g.quad ps x).places
+      by None = stays
+      by (Some k) = step_by k
 
 -- what a good table gives: an idle limit is at least 1
-abbrev pub LimitGood : Tracking → Type 0
-LimitGood tracking.Unset = Unit {0}
-LimitGood (tracking.Set m) = 1 ≤ m.limit
+abbrev pub LimitGood : Option Room → Type 0
+LimitGood None = Unit {0}
+LimitGood (Some m) = 1 ≤ m.limit
 
 pub places_tracked :
-    (t : Tracking) → LimitGood t → (g : Turn) → fits_kind g.quad ≡ true → (ps : List Place) → PlacesGood (room_in t) ps
+    (t : Option Room) → LimitGood t → (g : Turn) → fits_kind g.quad ≡ true → (ps : List Place) → PlacesGood (room_in t) ps
     → PlacesGood (room_in t) (tracked t g ps).places
-places_tracked tracking.Unset l g v ps p = p
-places_tracked (tracking.Set m) l g v ps p =
+places_tracked None l g v ps p = p
+places_tracked (Some m) l g v ps p =
     tracked_by m g ps (PlacesGood m) p
     (λ i f h.
     anew i f (λ n. absurd (false≢true (sym (free_holds q (at ps i) (p.spare i n)) ∙ h))) (λ j k. p.single q j i k h)
@@ -127,17 +124,17 @@ places_tracked (tracking.Set m) l g v ps p =
         (λ k h. more k (of_is k y h).1)
 
 -- as many as before, and each fits into words as before
-pub tracked_length : (t : Tracking) (g : Turn) (ps : List Place) → length (tracked t g ps).places ≡ length ps
-tracked_length tracking.Unset g ps = refl
-tracked_length (tracking.Set m) g ps =
+pub tracked_length : (t : Option Room) (g : Turn) (ps : List Place) → length (tracked t g ps).places ≡ length ps
+tracked_length None g ps = refl
+tracked_length (Some m) g ps =
     tracked_by m g ps (λ qs. length qs ≡ length ps) refl
     (λ i f h. length-set ps i _)
     (λ i h. length-set ps i _)
     (λ i h none. length-set ps i _)
 
-pub tracked_all_fit : (t : Tracking) (g : Turn) (ps : List Place) → All Fits ps → All Fits (tracked t g ps).places
-tracked_all_fit tracking.Unset g ps a = a
-tracked_all_fit (tracking.Set m) g ps a =
+pub tracked_all_fit : (t : Option Room) (g : Turn) (ps : List Place) → All Fits ps → All Fits (tracked t g ps).places
+tracked_all_fit None g ps a = a
+tracked_all_fit (Some m) g ps a =
     tracked_by m g ps (All Fits) a
     (λ i f h. All-set Fits ps i _ a (held_fits g.quad f))
     (λ i h. All-set Fits ps i _ a free_fits)

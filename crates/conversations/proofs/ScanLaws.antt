@@ -1,18 +1,16 @@
 -- The scan finds the first place that holds the quadruple and the first free place, as the places have them.
 -- Assumes nothing.
 use Prim.Native.Nat.{ℕ, suc, ◌+◌, ◌<◌, ◌≤◌}
-use mathlib.Core.Path.{◌≡◌, refl, sym, ap, subst, ◌∙◌}
-use mathlib.Core.Bool.{Bool, true, false, cond, ◌&&◌, not, and-false}
-use mathlib.Core.List.{List, [], ◌∷◌, map, map-append}
-use lib.ListN.{length, get_or, set, take, drop, length-map, get_or-map, drop_of_length-le}
-use lib.Seq.{take-suc, take-suc-set, take_all, drop-cons}
-use lib.Dec.{ltb, eqb}
-use native.Mathlib.Numerals.{add-one}
+use mathlib.Core.Path.{◌≡◌, refl, sym, ap, ◌∙◌}
+use mathlib.Core.Bool.{Bool, true, false, cond, ◌&&◌, and-false}
+use mathlib.Core.List.{List, [], ◌∷◌, map}
+use lib.ListN.{length, get_or, take, drop, length-map, get_or-map}
+use lib.Dec.{ltb}
 use native.Mathlib.Nat.{add-zero, zero-add}
 use native.Mathlib.Omega.{arith}
 use borrow.Author.Tests.{lt-ltb, le-ltb}
 use Rattle.numbers.specs.Lists.{first_from, first}
-use Rattle.places.specs.Places.{Place, free, is_free, no_quad, place_of, places_of, same_quad, holds}
+use Rattle.places.specs.Places.{Place, free, is_free, no_quad, place_of, holds}
 use Rattle.conversations.specs.Tracking.{held_at, free_at}
 use Rattle.conversations.specs.Scan.{shown, vacant, shows, seen_by, scan_from, nowhere, scan_of}
 use Rattle.places.specs.declared.Quad.{Quad}
@@ -29,56 +27,15 @@ module _ {A B : Type 0} (f : A → B) where
   abbrev pub Read : ℕ → List B → List A → Type 0
   Read i l ws = take i l ≡ map f (take i ws)
 
-  pub read_next :
-      (l : List B) (ws : List A) (i : ℕ) (x : B) (e : A) → i < length l → i < length ws → Read i l ws
-      → x ≡ f (get_or ws i e) → Read (i + 1) (set l i x) ws
-  read_next l ws i x e h k so eq =
-      let b = map-append f (take i ws) (get_or ws i e ∷ []) in
-      rw (add-one i, take-suc-set l i x h, take-suc ws i e k, b, so, eq)
-
-  pub read_all : (l : List B) (ws : List A) (n : ℕ) → length l ≤ n → length ws ≤ n → Read n l ws → l ≡ map f ws
-  read_all l ws n h k so = rw (take_all n l h, take_all n ws k) at so
-
 -- what the loader reads of the words of a place
 abbrev pub read : List ℕ → Conversation
 read w = shown (place_of w)
-
-pub read_shown : (ws : List (List ℕ)) → map read ws ≡ map shown (places_of ws)
-read_shown [] = refl
-read_shown (w ∷ ws) = ap (λ k. read w ∷ k) (read_shown ws)
-
--- ---- the step, as the code tests it
-
-pub seen_same :
-    (q : Quad) (c : Conversation) (i : ℕ) (f r : Found) (same : Bool) → same ≡ same_quad q c.quad
-    → r.held ≡ cond ((not (eqb c.state 0) && same) && ltb i f.held) i f.held
-    → r.free ≡ cond (eqb c.state 0 && ltb i f.free) i f.free → r ≡ seen_by q c i f
-unfolding seen_by
-seen_same q c i f r same s a b =
-    let h = a ∙ ap (λ (t : Bool). cond ((not (eqb c.state 0) && t) && ltb i f.held) i f.held) s in
-    λ k. record { held = h k; free = b k }
 
 -- ---- the loop: f is found before place i, and the rest of the scan from there gives what the whole gives
 
 module _ (q : Quad) where
   abbrev pub Upto : List Conversation → ℕ → Found → Type 0
   Upto cs i f = scan_from q i f (drop i cs) ≡ scan_of q cs
-
-  pub at_start_lem : (cs : List Conversation) → Upto cs 0 (nowhere (length cs))
-  unfolding scan_of
-  at_start_lem cs = refl
-
-  pub one_more_lem :
-      (cs : List Conversation) (i : ℕ) (f r : Found) → i < length cs → Upto cs i f → r ≡ seen_by q (get_or cs i empty) i f
-      → Upto cs (i + 1) r
-  one_more_lem cs i f r l so e =
-      subst (λ (k : ℕ). Upto cs k r) (sym (add-one i))
-      (ap (λ (g : Found). scan_from q (suc i) g (drop (suc i) cs)) e
-      ∙ sym (ap (scan_from q i f) (drop-cons cs i empty l))
-      ∙ so)
-
-  pub at_end_lem : (cs : List Conversation) (i : ℕ) (f : Found) → length cs ≤ i → Upto cs i f → f ≡ scan_of q cs
-  at_end_lem cs i f over so = sym (ap (scan_from q i f) (drop_of_length-le cs over)) ∙ so
 
 -- ---- what the fold finds, of either part of the answer
 
@@ -129,16 +86,6 @@ pub scan_held : (q : Quad) (ps : List Place) → (scan_of q (map shown ps)).held
 unfolding seen_by holds
 scan_held q ps = found_first q (λ f. f.held) (shows q) (λ c i f. refl) (holds q) (λ p. refl) ps refl
 
-pub scan_free : (q : Quad) (ps : List Place) → (scan_of q (map shown ps)).free ≡ free_at ps (length ps)
+pub scan_free : (q : Quad) (ps : List Place) (n : ℕ) → n ≡ length ps → (scan_of q (map shown ps)).free ≡ free_at ps n
 unfolding seen_by
-scan_free q ps = found_first q (λ f. f.free) vacant (λ c i f. refl) is_free (λ p. refl) ps refl
-
-pub found_all :
-    (q : Quad) (cs : List Conversation) (ps : List Place) (r : Found) → length cs ≡ 8 → cs ≡ map shown ps → r ≡ scan_of q cs
-    → (r.held ≡ held_at q ps) × (r.free ≡ free_at ps 8)
-found_all q cs ps r n e h =
-    let so = h ∙ ap (scan_of q) e in (
-      ap (λ (f : Found). f.held) so ∙ scan_held q ps,
-      ap (λ (f : Found). f.free) so ∙ scan_free q ps
-          ∙ ap (free_at ps) (sym (length-map ps shown) ∙ ap length (sym e) ∙ n),
-    )
+scan_free q ps n e = found_first q (λ f. f.free) vacant (λ c i f. refl) is_free (λ p. refl) ps refl ∙ ap (free_at ps) (sym e)

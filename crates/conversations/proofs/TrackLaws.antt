@@ -39,23 +39,12 @@ module _ (m : Room) (second : Bool) (ps : List Place) where
   pub seat_at : number_of m second ≤ held_by second ps → seat_of m second ps ≡ m.places
   seat_at h = rw (le-ltb (held_by second ps) (number_of m second) h)
 
-  -- the same in the words of the code
-  module _ (n h k : ℕ) (many : n ≡ m.places) (held : h ≡ held_by second ps) (number : k ≡ number_of m second) where
-    pub seat_free : (i : ℕ) → h < k → i ≡ free_at ps n → i ≡ seat_of m second ps
-    seat_free i l e = e ∙ ap (free_at ps) many ∙ sym (seat_below (omega (arith, held, number)))
-
-    pub seat_none : k ≤ h → n ≡ seat_of m second ps
-    seat_none l = many ∙ sym (seat_at (omega (arith, held, number)))
-
 module _ (m : Room) (q : Quad) (ps : List (List ℕ)) (n i : ℕ) (many : n ≡ m.places) (found : i ≡ seat_of m q.second (places_of ps)) where
   pub open_yes : (x : List ℕ) → i < n → place_of x ≡ held_as q phase.Opening → tracked_as progress.Holds (set ps i x) ≡ opened m q (places_of ps)
   open_yes x h p =
       rw (lt-ltb (seat_of m q.second (places_of ps)) m.places (omega (arith, found)))
       (stored progress.Holds ps i x (held_as q phase.Opening) p
       ∙ ap (λ (k : ℕ). record { progress = progress.Holds; places = set (places_of ps) k (held_as q phase.Opening) }) found)
-
-  pub open_no : n ≤ i → tracked_as progress.NoPlaceFree ps ≡ opened m q (places_of ps)
-  open_no h = rw (le-ltb (seat_of m q.second (places_of ps)) m.places (omega (arith, found)))
 
 -- ---- the conversation is held, or not
 

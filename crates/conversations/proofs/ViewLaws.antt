@@ -13,14 +13,10 @@ use Rattle.numbers.proofs.Lists.{first_holds, first_before}
 use Rattle.numbers.proofs.Tests.{by_less}
 use Rattle.numbers.proofs.Counting.{count_cover}
 use Rattle.table.specs.declared.Room.{Room}
-use Rattle.table.specs.declared.Tracking.{Tracking}
-use Rattle.table.specs.declared.Tracking.TheVariants as tracking
 use Rattle.table.specs.Table.{number_of}
 use Rattle.flags.specs.Flags.{next_of}
 use Rattle.flags.specs.declared.FlagKind.{FlagKind}
 use Rattle.flags.specs.declared.FlagKind.TheVariants as kind
-use Rattle.flags.specs.declared.Flags.{Flags}
-use Rattle.flags.specs.declared.Flags.TheVariants as flags
 use Rattle.flags.specs.declared.Phase.TheVariants as phase
 use Rattle.flags.specs.declared.Next.{Next}
 use Rattle.flags.specs.declared.Next.TheVariants as next
@@ -35,9 +31,10 @@ use Rattle.conversations.specs.declared.Progress.TheVariants as progress
 use Rattle.conversations.specs.Tracking.{Together, Tracked, free_at, seat_of, held_at, moved, opened, begun, step_of, tracked_in, tracked}
 use Rattle.conversations.proofs.TrackLaws.{seat_below, seat_at}
 use Rattle.conversations.proofs.KeptLaws.{tracked_by}
+use Rattle.std.specs.Prelude.{Option, Some, None}
 
 -- good places of a rule that tracks, and as many as it has
-pub record Fit (t : Tracking) (ps : List Place) : Type 0 where
+pub record Fit (t : Option Room) (ps : List Place) : Type 0 where
   pub good : PlacesGood (room_in t) ps
   pub row : places_in t ≤ length ps
 
@@ -48,7 +45,7 @@ pub record Alike (k : Bool) (a b : Tracked) : Type 0 where
 
 -- ---- a free place for every socket below its number
 
-module _ (m : Room) (ps : List Place) (a : Fit (tracking.Set m) ps) (s : Together (tracking.Set m)) where
+module _ (m : Room) (ps : List Place) (a : Fit (Some m) ps) (s : Together (Some m)) where
   few : (k : Bool) → held_by k ps < number_of m k → held_by false ps + held_by true ps < m.places
   few false l = let z = a.good.numbers true in omega arith
   few true l = let z = a.good.numbers false in omega arith
@@ -84,8 +81,8 @@ record Full (m : Room) (i j : ℕ) : Type 0 where
   pub one : m.places ≤ i
   pub two : m.places ≤ j
 
-module _ (m : Room) (s : Together (tracking.Set m)) (k : Bool) (ps qs : List Place) (v : View k ps qs)
-    (a : Fit (tracking.Set m) ps) (b : Fit (tracking.Set m) qs) where
+module _ (m : Room) (s : Together (Some m)) (k : Bool) (ps qs : List Place) (v : View k ps qs)
+    (a : Fit (Some m) ps) (b : Fit (Some m) qs) where
   count_same : held_by k ps ≡ held_by k qs
   count_same = v (of_socket k) (λ p h. h)
 
@@ -175,15 +172,15 @@ module _ (m : Room) (s : Together (tracking.Set m)) (k : Bool) (ps qs : List Pla
       (λ c. rw (le-ltb (held_at q ps) (length ps) c.one, le-ltb (held_at q qs) (length qs) c.two) (begun_alike q e x))
       (view_first k (holds q) (holds_mine q e) ps qs v (b.good.single q))
 
-  flags_alike : (q : Quad) → q.second ≡ k → (x : Flags) → Alike k (tracked_in m q ps x) (tracked_in m q qs x)
-  flags_alike q e flags.Wrong = record { progress = refl; places = v }
-  flags_alike q e (flags.Kind x) = step_alike q e x
+  flags_alike : (q : Quad) → q.second ≡ k → (x : Option FlagKind) → Alike k (tracked_in m q ps x) (tracked_in m q qs x)
+  flags_alike q e None = record { progress = refl; places = v }
+  flags_alike q e (Some x) = step_alike q e x
 
 pub tracked_alike :
-    (t : Tracking) (g : Turn) (ps qs : List Place) → Together t → View g.quad.second ps qs → Fit t ps → Fit t qs
+    (t : Option Room) (g : Turn) (ps qs : List Place) → Together t → View g.quad.second ps qs → Fit t ps → Fit t qs
     → Alike g.quad.second (tracked t g ps) (tracked t g qs)
-tracked_alike tracking.Unset g ps qs s v a b = record { progress = refl; places = v }
-tracked_alike (tracking.Set m) g ps qs s v a b = flags_alike m s g.quad.second ps qs v a b g.quad refl g.flags
+tracked_alike None g ps qs s v a b = record { progress = refl; places = v }
+tracked_alike (Some m) g ps qs s v a b = flags_alike m s g.quad.second ps qs v a b g.quad refl g.flags
 
 -- ---- the other socket's frame
 
@@ -191,9 +188,9 @@ module _ (k : Bool) (g : Turn) (ne : g.quad.second ≡ k → ⊥) where
   holds_other : (p : Place) → holds g.quad p ≡ true → of_socket k p ≡ false
   holds_other p h = not_of k p (λ e. ne (ap (λ (z : Quad). z.second) (holds_is g.quad p h).1 ∙ e))
 
-  pub view_tracked : (t : Tracking) (ps : List Place) → View k ps (tracked t g ps).places
-  view_tracked tracking.Unset ps = λ f o. refl
-  view_tracked (tracking.Set m) ps =
+  pub view_tracked : (t : Option Room) (ps : List Place) → View k ps (tracked t g ps).places
+  view_tracked None ps = λ f o. refl
+  view_tracked (Some m) ps =
       tracked_by m g ps (View k ps) (λ f o. refl)
       (λ i f h. view_other k ps (held_as g.quad f) i (holds_other (at ps i) h) (not_of k (held_as g.quad f) ne))
       (λ i h. view_other k ps free i (holds_other (at ps i) h) (free_of k free refl))

@@ -1,9 +1,7 @@
 -- Tracking: what a frame does to the places of the rule that decides it. Document 01, 'One frame, in this order', step 4.
 -- Assumes nothing.
-use Rattle.std.specs.Prelude.{ℕ, ◌+◌, ◌≤◌, Bool, cond, List, length, get_or, set, ltb}
+use Rattle.std.specs.Prelude.{ℕ, ◌+◌, ◌≤◌, Bool, cond, List, length, get_or, set, ltb, Option, Some, None}
 use Rattle.numbers.specs.Lists.{first}
-use Rattle.table.specs.declared.Tracking.{Tracking}
-use Rattle.table.specs.declared.Tracking.TheVariants as tracking
 use Rattle.table.specs.declared.Room.{Room}
 use Rattle.flags.specs.Flags.{next_of}
 use Rattle.table.specs.Table.{number_of}
@@ -11,8 +9,6 @@ use Rattle.places.specs.Places.{Place, free, is_free, holds, held_by, phase_of, 
 use Rattle.places.specs.declared.Quad.{Quad}
 use Rattle.flags.specs.declared.FlagKind.{FlagKind}
 use Rattle.flags.specs.declared.FlagKind.TheVariants as kind
-use Rattle.flags.specs.declared.Flags.{Flags}
-use Rattle.flags.specs.declared.Flags.TheVariants as flags
 use Rattle.flags.specs.declared.Phase.TheVariants as phase
 use Rattle.flags.specs.declared.Next.{Next}
 use Rattle.flags.specs.declared.Next.TheVariants as next
@@ -21,9 +17,9 @@ use Rattle.conversations.specs.declared.Progress.{Progress}
 use Rattle.conversations.specs.declared.Progress.TheVariants as progress
 
 -- 6/12: "the two numbers together don't exceed the places", of a rule that tracks
-abbrev pub Together : Tracking → Type 0
-Together tracking.Unset = Unit {0}
-Together (tracking.Set m) = m.number0 + m.number1 ≤ m.places
+abbrev pub Together : Option Room → Type 0
+Together None = Unit {0}
+Together (Some m) = m.number0 + m.number1 ≤ m.places
 
 -- what tracking says of the frame, and the places after it. "Verdicts other than 0 change no conversation"
 pub record Tracked : Type 0 where
@@ -75,11 +71,11 @@ step_of m q ps k =
     cond (ltb i (length ps)) (moved q ps i (next_of (phase_of (get_or ps i free).state) k)) (begun m q ps k)
 
 -- a rule that tracks: "a wrong flag set, no such conversation, and a kind not allowed in the state held. Where two hold, the flag set comes first"
-abbrev pub tracked_in : Room → Quad → List Place → Flags → Tracked
-tracked_in m q ps flags.Wrong = record { progress = progress.WrongFlags; places = ps }
-tracked_in m q ps (flags.Kind k) = step_of m q ps k
+abbrev pub tracked_in : Room → Quad → List Place → Option FlagKind → Tracked
+tracked_in m q ps None = record { progress = progress.WrongFlags; places = ps }
+tracked_in m q ps (Some k) = step_of m q ps k
 
 -- a rule that tracks, or does not: then all holds
-abbrev pub tracked : Tracking → Turn → List Place → Tracked
-tracked tracking.Unset g ps = record { progress = progress.Holds; places = ps }
-tracked (tracking.Set m) g ps = tracked_in m g.quad ps g.flags
+abbrev pub tracked : Option Room → Turn → List Place → Tracked
+tracked None g ps = record { progress = progress.Holds; places = ps }
+tracked (Some m) g ps = tracked_in m g.quad ps g.flags

@@ -4,18 +4,18 @@
 mod scan;
 pub mod track;
 
-use flags::Flags;
+use flags::FlagKind;
 use places::Quad;
 
-// What a rule looks at in a frame: its socket, which the quadruple has, and of a TCP segment the conversation and the flags. A frame without one has no conversation, on its socket.
+// What a rule looks at in a frame: its socket, which the quadruple has, and of a TCP segment the conversation and what the flags count as, None where they are wrong. A frame without one has no conversation, on its socket.
 #[derive(Clone, Copy)]
 pub struct Turn {
     pub quad: Quad,
-    pub flags: Flags,
+    pub flags: Option<FlagKind>,
 }
 
 // What tracking says of a frame: it holds, or why not.
-#[derive(Clone, Copy)]
+#[derive(Clone, Copy, PartialEq, Eq)]
 pub enum Progress {
     Holds,
     WrongFlags,

@@ -1,12 +1,12 @@
 // The places of one rule as a lent slice of at most eight conversation structs, scanned for a quadruple and for the first free place.
-ghost use Rattle.std.specs.Prelude.{◌≡◌, cond, map};
+ghost use Rattle.std.specs.Prelude.{◌≡◌, map};
 ghost use Rattle.places.specs.Places.{place_of, places_of};
 ghost use Rattle.table.specs.Table.{most_places};
 ghost use Rattle.conversations.specs.Tracking.{held_at, free_at};
 ghost use Rattle.conversations.specs.Scan.{shown, seen_by, scan_of};
 
-use places::place::{quad, same_quad};
-use places::{HELD, KIND_BIT, PLACE_WORDS, PlaceWords, Quad, RulePlaces};
+use places::place::{quad, same_quad, state};
+use places::{PLACE_WORDS, PlaceWords, Quad, RulePlaces};
 use table::PLACES;
 
 // What the scan looks at in a place, free or held.
@@ -16,7 +16,7 @@ pub struct Conversation {
     pub quad: Quad,
 }
 
-// The first place that holds the quadruple and the first free place; the number of places where there is none.
+// The first place that holds the quadruple and the first free place. The number of places, and no Option, says that there is none: the definitions held_at and free_at have it so.
 #[derive(Clone, Copy)]
 pub struct Found {
     pub held: usize,
@@ -25,70 +25,56 @@ pub struct Found {
 
 // ---- the loader
 
-fn read_place(w: PlaceWords) -> Conversation
-    ensures { result ≡ shown (place_of w) }
+fn read_place(w: &PlaceWords) -> Conversation
+    ensures { result ≡ shown (place_of w.now) }
 {
     Conversation {
-        state: w[HELD] % KIND_BIT,
-        quad: quad(&w),
+        state: state(w),
+        quad: quad(w),
     }
-}
-
-// By value, which tells that the words are of eight places.
-fn read_places(words: RulePlaces) -> [Conversation; PLACES]
-    ensures { result ≡ map shown (places_of words) }
-{
-    let empty = read_place([0; PLACE_WORDS]);
-    let mut places = [empty; PLACES];
-    let mut i: usize = 0;
-    while i < PLACES {
-        places[i] = read_place(words[i]);
-        i += 1;
-    }
-    places
 }
 
 pub(crate) fn load(row: &RulePlaces) -> [Conversation; PLACES]
     ensures { result ≡ map shown (places_of row.now) }
 {
-    read_places(*row)
+    let mut places = [read_place(&[0; PLACE_WORDS]); PLACES];
+    for (i, w) in row.iter().enumerate() {
+        places[i] = read_place(w);
+    }
+    places
 }
 
 // ---- the scan
 
-fn place_if(here: bool, i: usize, before: usize) -> usize
-    ensures { result ≡ cond here i before }
-{
-    if here {
-        return i;
-    }
-    before
-}
-
 // One place is seen, at i, after what was found before it.
+#[tactic(auto, unfolding(crate::specs::Scan::seen_by))]
 pub(crate) fn seen(c: Conversation, q: Quad, found: Found, i: usize) -> Found
     ensures { result ≡ seen_by q c i found }
 {
     let vacant = c.state == 0;
-    let taken = c.state != 0;
-    let there = c.quad;
-    let same = same_quad(q, there);
-    Found {
-        held: place_if(taken & same & (i < found.held), i, found.held),
-        free: place_if(vacant & (i < found.free), i, found.free),
-    }
+    let same = !vacant && same_quad(q, c.quad);
+    let held = if same && i < found.held {
+        i
+    } else {
+        found.held
+    };
+    let free = if vacant && i < found.free {
+        i
+    } else {
+        found.free
+    };
+    Found { held, free }
 }
 
 // The walk: the places in their order, each seen once.
+#[tactic(auto, unfolding(crate::specs::Scan::scan_of))]
 pub(crate) fn scan(places: &[Conversation], q: Quad) -> Found
     ensures { result ≡ scan_of q places.now }
 {
     let n = places.len();
     let mut found = Found { held: n, free: n };
-    let mut i: usize = 0;
-    while i < n {
-        found = seen(places[i], q, found, i);
-        i += 1;
+    for (i, c) in places.iter().enumerate() {
+        found = seen(*c, q, found, i);
     }
     found
 }
@@ -97,9 +83,10 @@ pub(crate) fn scan(places: &[Conversation], q: Quad) -> Found
 pub(crate) fn scan_in(places: [Conversation; PLACES], q: Quad) -> Found
     ensures { result ≡ scan_of q places }
 {
-    scan(&places[..], q)
+    scan(&places, q)
 }
 
+#[tactic(auto, using(crate::proofs::ScanLaws::scan_held, crate::proofs::ScanLaws::scan_free))]
 pub(crate) fn find(q: Quad, row: &RulePlaces) -> Found
     ensures held { result.held ≡ held_at q (places_of row.now) }
     ensures free { result.free ≡ free_at (places_of row.now) most_places }

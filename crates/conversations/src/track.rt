@@ -6,9 +6,8 @@ ghost use Rattle.conversations.specs.Tracking.{held_at, free_at, seat_of, moved,
 
 use crate::scan::find;
 use crate::*;
-use flags::{FlagKind, Flags, Next, Phase, next_of};
+use flags::{FlagKind, Next, Phase, next_of};
 use places::place::{no_quad, phase_of, place_words, state};
-use places::shape::tell_places;
 use places::sockets::held_by;
 use places::{PLACE_WORDS, PlaceWords, Quad, RulePlaces};
 use table::settings::number_of;
@@ -20,8 +19,7 @@ use table::{PLACES, Room};
 fn find_quad(q: Quad, ps: &RulePlaces) -> usize
     ensures { result ≡ held_at q (places_of ps.now) }
 {
-    let found = find(q, ps);
-    found.held
+    find(q, ps).held
 }
 
 // The first free place of n, or n. It is found whatever the quadruple.
@@ -29,16 +27,16 @@ fn find_free(n: usize, ps: &RulePlaces) -> usize
     requires { n ≤ most_places }
     ensures { result ≡ free_at (places_of ps.now) n }
 {
-    let found = find(no_quad(false), ps);
-    if found.free < n { found.free } else { n }
+    find(no_quad(false), ps).free.min(n)
 }
 
 // The place for a new conversation of a socket, or as many as there are: none for a socket at its number.
+// That no Room has more than eight places is asked here and below, and no fact of Room: the definition tracking_of gives a Room for every rule, one at fault too.
 fn find_seat(m: Room, second: bool, ps: &RulePlaces) -> usize
     requires { m.places ≤ most_places }
     ensures { result ≡ seat_of m second (places_of ps.now) }
 {
-    let n = numbers::count8(m.places);
+    let n = usize::from(m.places);
     if held_by(second, ps) < number_of(m, second) {
         find_free(n, ps)
     } else {
@@ -84,11 +82,12 @@ fn open_place(m: Room, q: Quad, ps: &mut RulePlaces) -> Progress
     ensures { tracked_as result ps.new ≡ opened m q (places_of ps.old) }
 {
     let i = find_seat(m, q.second, ps);
-    if i < numbers::count8(m.places) {
+    if i < usize::from(m.places) {
         hold(q, Phase::Opening, &mut ps[i]);
-        return Progress::Holds;
+        Progress::Holds
+    } else {
+        Progress::NoPlaceFree
     }
-    Progress::NoPlaceFree
 }
 
 // No such conversation is held: an open frame begins it.
@@ -98,25 +97,23 @@ fn begin(m: Room, q: Quad, k: FlagKind, ps: &mut RulePlaces) -> Progress
 {
     match k {
         FlagKind::Open => open_place(m, q, ps),
-        FlagKind::Carry => Progress::NoConversation,
-        FlagKind::End => Progress::NoConversation,
-        FlagKind::Reset => Progress::NoConversation,
+        FlagKind::Carry | FlagKind::End | FlagKind::Reset => Progress::NoConversation,
     }
 }
 
 // A frame whose flags are a kind: a step of the conversation that is held, or of none.
+#[tactic(auto, using(crate::proofs::TrackLaws::step_held, crate::proofs::TrackLaws::step_none))]
 fn take_step(m: Room, q: Quad, k: FlagKind, ps: &mut RulePlaces) -> Progress
     requires { m.places ≤ most_places }
     ensures { tracked_as result ps.new ≡ step_of m q (places_of ps.old) k }
 {
-    tell_places(*ps);
     let i = find_quad(q, ps);
     if i < PLACES {
-        let f = phase_of(state(&ps[i]));
-        let n = next_of(f, k);
-        return move_place(q, n, i, ps);
+        let n = next_of(phase_of(state(&ps[i])), k);
+        move_place(q, n, i, ps)
+    } else {
+        begin(m, q, k, ps)
     }
-    begin(m, q, k, ps)
 }
 
 // The flags come first: wrong ones are told before a conversation is looked for.
@@ -124,10 +121,8 @@ pub fn track(m: Room, g: Turn, ps: &mut RulePlaces) -> Progress
     requires { m.places ≤ most_places }
     ensures { tracked_as result ps.new ≡ tracked_in m g.quad (places_of ps.old) g.flags }
 {
-    let q = g.quad;
-    let flags = g.flags;
-    match flags {
-        Flags::Wrong => Progress::WrongFlags,
-        Flags::Kind(k) => take_step(m, q, k, ps),
+    match g.flags {
+        None => Progress::WrongFlags,
+        Some(k) => take_step(m, g.quad, k, ps),
     }
 }

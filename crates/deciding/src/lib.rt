@@ -30,6 +30,8 @@ pub struct Decision {
     pub best: Best,
 }
 
+// Places and layers are numbers, as the paper has them: 64 is the row of the default's counts, and a layer is how many match before it.
+
 // How many layers a rule has, and the score of one that matches in all.
 const LAYERS: usize = 4;
 
@@ -54,19 +56,18 @@ fn best_fit(t: &TableWords, state: usize, second: bool, s: &[u8], l: Layers) -> 
     requires inside { Inside s.now l }
     ensures { result ≡ best_of (table_in t.now) state (seen second s.now l) }
 {
-    tell_table(*t);
     let marks = marks_of(t, state);
-    let count = rulecount(t);
     let mut place = RULES;
     let mut most = 0;
-    let mut i = 0;
-    while (i < count) & (most < WHOLE) {
+    for i in 0..rulecount(t) {
         let n = score(&t[i], marks, i, second, s, l);
         if most < n {
             place = i;
             most = n;
         }
-        i += 1;
+        if WHOLE <= most {
+            break;
+        }
     }
     if most == 0 {
         return Best {
@@ -75,7 +76,7 @@ fn best_fit(t: &TableWords, state: usize, second: bool, s: &[u8], l: Layers) -> 
         };
     }
     Best {
-        place: place,
+        place,
         layer: most - 1,
     }
 }

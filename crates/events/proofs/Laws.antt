@@ -19,8 +19,8 @@ use Rattle.packets.specs.declared.Ip.{Ip}
 use Rattle.packets.specs.declared.Ip.TheVariants as ip
 use Rattle.payloads.specs.declared.Transport.{Transport}
 use Rattle.payloads.specs.declared.Transport.TheVariants as transport
-use Rattle.payloads.specs.declared.Someip.{Someip}
-use Rattle.payloads.specs.declared.Someip.TheVariants as someip
+use Rattle.payloads.specs.declared.Bundle.{Bundle}
+use Rattle.std.specs.Prelude.{Option, Some, None}
 use Rattle.layers.specs.declared.Layers.{Layers}
 use Rattle.layers.specs.Seen.{seen}
 use Rattle.events.specs.Events.{array, ipv4_header, ipv6_header, tcp_header, udp_header, someip_header, number_of, event_bytes, longest_event}
@@ -78,10 +78,10 @@ udp_in s (transport.Tcp t) = refl
 udp_in s (transport.Udp u) = refl
 
 -- the first message's header is where the bundle starts
-someip_in_lem : (s : List ℕ) (x : Someip) → SomeipInside s x → header_in s (someip_span x) ≡ someip_header s x
+someip_in_lem : (s : List ℕ) (x : Option Bundle) → SomeipInside s x → header_in s (someip_span x) ≡ someip_header s x
 unfolding message_at
-someip_in_lem s someip.Absent w = refl
-someip_in_lem s (someip.Present b) w =
+someip_in_lem s None w = refl
+someip_in_lem s (Some b) w =
     rw (walked s b.payload b.plen (message_at s b.payload) w.cut w.some refl).is refl
 
 pub event_parts :
@@ -159,9 +159,9 @@ udp_fits s transport.Absent h = omega arith
 udp_fits s (transport.Tcp t) h = omega arith
 udp_fits s (transport.Udp u) h = omega (arith, h.joined, h.payload)
 
-someip_fits : (s : List ℕ) (x : Someip) → SomeipInside s x → (someip_span x).at + (someip_span x).len ≤ length s
-someip_fits s someip.Absent h = omega arith
-someip_fits s (someip.Present b) h = (walked s b.payload b.plen (message_at s b.payload) h.cut h.some refl).header
+someip_fits : (s : List ℕ) (x : Option Bundle) → SomeipInside s x → (someip_span x).at + (someip_span x).len ≤ length s
+someip_fits s None h = omega arith
+someip_fits s (Some b) h = (walked s b.payload b.plen (message_at s b.payload) h.cut h.some refl).header
 
 pub span_fits : (e : Event) (s : List ℕ) (l : Layers) → Inside s l → 14 ≤ length s → (span_of e l).at + (span_of e l).len ≤ length s
 span_fits event.Ratelimit s l h k = omega arith

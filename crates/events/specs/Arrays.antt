@@ -7,8 +7,8 @@ use Rattle.packets.specs.declared.Ip.TheVariants as ip
 use Rattle.payloads.specs.declared.Transport.{Transport}
 use Rattle.payloads.specs.declared.Transport.TheVariants as transport
 use Rattle.payloads.specs.Someip.{someip_bytes}
-use Rattle.payloads.specs.declared.Someip.{Someip}
-use Rattle.payloads.specs.declared.Someip.TheVariants as someip
+use Rattle.payloads.specs.declared.Bundle.{Bundle}
+use Rattle.std.specs.Prelude.{Option, Some, None}
 use Rattle.layers.specs.declared.Layers.{Layers}
 use Rattle.events.specs.Events.{word16, part}
 use Rattle.events.specs.declared.Event.{Event}
@@ -56,9 +56,9 @@ udp_span (transport.Tcp t) = nowhere
 udp_span (transport.Udp u) = record { at = u.header; len = 8 }
 
 -- the first message stands first in its bundle
-abbrev pub someip_span : Someip → Span
-someip_span someip.Absent = nowhere
-someip_span (someip.Present b) = record { at = b.payload; len = someip_bytes }
+abbrev pub someip_span : Option Bundle → Span
+someip_span None = nowhere
+someip_span (Some b) = record { at = b.payload; len = someip_bytes }
 
 abbrev pub span_of : Event → Layers → Span
 span_of event.Ratelimit l = record { at = 6; len = 6 }

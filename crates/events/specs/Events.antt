@@ -8,7 +8,8 @@ use Rattle.packets.specs.declared.Ip.{Ip}
 use Rattle.packets.specs.declared.Ip.TheVariants as ip
 use Rattle.payloads.specs.declared.Transport.{Transport}
 use Rattle.payloads.specs.declared.Transport.TheVariants as transport
-use Rattle.payloads.specs.declared.Someip.{Someip}
+use Rattle.payloads.specs.declared.Bundle.{Bundle}
+use Rattle.std.specs.Prelude.{Option}
 use Rattle.payloads.specs.declared.Message.{Message}
 use Rattle.payloads.specs.Someip.{someip_bytes, messages_of}
 use Rattle.layers.specs.Seen.{Seen}
@@ -60,7 +61,7 @@ abbrev pub first_header : List ℕ → List Message → List ℕ
 first_header s [] = []
 first_header s (m ∷ ms) = part s m.header someip_bytes
 
-abbrev pub someip_header : List ℕ → Someip → List ℕ
+abbrev pub someip_header : List ℕ → Option Bundle → List ℕ
 someip_header s x = first_header s (messages_of s x)
 
 -- "MAC_Address is the source MAC"

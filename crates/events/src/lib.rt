@@ -23,7 +23,7 @@ ghost use Rattle.events.specs.Arrays.{
 
 use layers::Layers;
 use packets::Ip;
-use payloads::{Someip, Transport};
+use payloads::{Bundle, Transport};
 use table::settings::is_tcp;
 use table::words;
 use table::words::RuleWords;
@@ -117,12 +117,11 @@ fn ipv4_span(ip: Ip) -> Span
     ensures { result ≡ ipv4_span ip }
 {
     match ip {
-        Ip::Absent => Span::nowhere(),
         Ip::V4(p) => Span {
             at: p.header,
             len: p.hlen,
         },
-        Ip::V6(_) => Span::nowhere(),
+        Ip::Absent | Ip::V6(_) => Span::nowhere(),
     }
 }
 
@@ -131,12 +130,11 @@ fn ipv6_span(ip: Ip) -> Span
     ensures { result ≡ ipv6_span ip }
 {
     match ip {
-        Ip::Absent => Span::nowhere(),
-        Ip::V4(_) => Span::nowhere(),
         Ip::V6(p) => Span {
             at: p.header,
             len: 40,
         },
+        Ip::Absent | Ip::V4(_) => Span::nowhere(),
     }
 }
 
@@ -144,12 +142,11 @@ fn tcp_span(t: Transport) -> Span
     ensures { result ≡ tcp_span t }
 {
     match t {
-        Transport::Absent => Span::nowhere(),
         Transport::Tcp(g) => Span {
             at: g.header,
             len: g.hlen,
         },
-        Transport::Udp(_) => Span::nowhere(),
+        Transport::Absent | Transport::Udp(_) => Span::nowhere(),
     }
 }
 
@@ -157,22 +154,21 @@ fn udp_span(t: Transport) -> Span
     ensures { result ≡ udp_span t }
 {
     match t {
-        Transport::Absent => Span::nowhere(),
-        Transport::Tcp(_) => Span::nowhere(),
         Transport::Udp(u) => Span {
             at: u.header,
             len: 8,
         },
+        Transport::Absent | Transport::Tcp(_) => Span::nowhere(),
     }
 }
 
 // The first message stands first in its bundle.
-fn someip_span(x: Someip) -> Span
+fn someip_span(x: Option<Bundle>) -> Span
     ensures { result ≡ someip_span x }
 {
     match x {
-        Someip::Absent => Span::nowhere(),
-        Someip::Present(b) => Span {
+        None => Span::nowhere(),
+        Some(b) => Span {
             at: b.payload,
             len: 16,
         },
@@ -183,63 +179,43 @@ fn someip_span(x: Someip) -> Span
 fn span_of(e: Event, l: Layers) -> Span
     ensures { result ≡ span_of e l }
 {
-    let link = l.link;
-    let ip = l.ip;
-    let transport = l.transport;
-    let someip = l.someip;
     match e {
         Event::Ratelimit => Span { at: 6, len: 6 },
         Event::StateTransition => Span::nowhere(),
-        Event::MaxConnections => tcp_span(transport),
+        Event::MaxConnections => tcp_span(l.transport),
         Event::LinkMismatch => Span {
             at: 0,
-            len: link.hlen,
+            len: l.link.hlen,
         },
-        Event::Ipv4Mismatch => ipv4_span(ip),
-        Event::Ipv6Mismatch => ipv6_span(ip),
-        Event::TcpMismatch => tcp_span(transport),
-        Event::UdpMismatch => udp_span(transport),
-        Event::SomeipMismatch => someip_span(someip),
+        Event::Ipv4Mismatch => ipv4_span(l.ip),
+        Event::Ipv6Mismatch => ipv6_span(l.ip),
+        Event::TcpMismatch => tcp_span(l.transport),
+        Event::UdpMismatch => udp_span(l.transport),
+        Event::SomeipMismatch => someip_span(l.someip),
     }
-}
-
-fn high(n: u16) -> u8
-    ensures { result ≡ n / 256 }
-{
-    (n / 256) as u8
-}
-
-fn low(n: u16) -> u8
-    ensures { result ≡ n % 256 }
-{
-    (n % 256) as u8
 }
 
 fn head(number: u16, id: u16, space: &mut [u8])
     requires { 4 ≤ length space.old }
     ensures { space.new ≡ heading number id ++ drop 4 space.old }
 {
-    space[0] = high(number);
-    space[1] = low(number);
-    space[2] = high(id);
-    space[3] = low(id);
+    space[..2].copy_from_slice(&number.to_be_bytes());
+    space[2..4].copy_from_slice(&id.to_be_bytes());
 }
 
 // The byte at i, zero past the end.
 fn byte_at(s: &[u8], i: usize) -> u8
     ensures { result ≡ byte s.now i }
 {
-    if i < s.len() { s[i] } else { 0 }
+    s.get(i).copied().unwrap_or(0)
 }
 
 // The header's first bytes, zeros to fill.
 fn fill(header: &[u8], space: &mut [u8])
     ensures { space.new ≡ array (length space.old) header.now }
 {
-    let mut i = 0;
-    while i < space.len() {
+    for i in 0..space.len() {
         space[i] = byte_at(header, i);
-        i += 1;
     }
 }
 
@@ -251,34 +227,23 @@ pub fn write(e: Event, id: u16, frame: &[u8], l: Layers, space: &mut [u8]) -> us
     ensures { (second : Bool) → Wrote (event_bytes e id (seen second frame.now l)) space.old space.new result }
 {
     head(e.number(), id, space);
-    let span = span_of(e, l);
-    let at = span.at;
-    let end = at + span.len;
+    let Span { at, len } = span_of(e, l);
     let stop = e.length();
-    fill(&frame[at..end], &mut space[4..stop]);
+    fill(&frame[at..at + len], &mut space[4..stop]);
     stop
 }
 
 // The event of a rule whose next layer does not match.
+#[tactic(auto, unfolding(crate::specs::Events::mismatch_of))]
 pub fn mismatch(r: &RuleWords, layer: usize) -> Event
     ensures { result ≡ mismatch_of (rule_in r.now) layer }
 {
-    if layer == 0 {
-        return Event::LinkMismatch;
+    match layer {
+        0 => Event::LinkMismatch,
+        1 if words::no_ipv6(r) => Event::Ipv4Mismatch,
+        1 => Event::Ipv6Mismatch,
+        2 if is_tcp(words::transport(r).kind) => Event::TcpMismatch,
+        2 => Event::UdpMismatch,
+        _ => Event::SomeipMismatch,
     }
-    if layer == 1 {
-        if words::no_ipv6(r) {
-            return Event::Ipv4Mismatch;
-        }
-        return Event::Ipv6Mismatch;
-    }
-    if layer == 2 {
-        let transport = words::transport(r);
-        let kind = transport.kind;
-        if is_tcp(kind) {
-            return Event::TcpMismatch;
-        }
-        return Event::UdpMismatch;
-    }
-    Event::SomeipMismatch
 }

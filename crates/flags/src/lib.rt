@@ -5,8 +5,8 @@ ghost use Rattle.std.specs.Prelude.{◌≡◌, cond, ◌<◌, ◌≤◌};
 ghost use Rattle.flags.specs.Flags.{kind_of, next_of};
 ghost use Rattle.flags.specs.Kinds.{entry_of};
 
-// The kinds that the four flags can count as.
-#[derive(Clone, Copy)]
+// The kinds that the four flags can count as. What is none of them is wrong: None stands for it.
+#[derive(Clone, Copy, PartialEq, Eq)]
 pub enum FlagKind {
     Open,
     Carry,
@@ -14,15 +14,8 @@ pub enum FlagKind {
     Reset,
 }
 
-// What they do count as: no kind, which is wrong, or one of the kinds.
-#[derive(Clone, Copy)]
-pub enum Flags {
-    Wrong,
-    Kind(FlagKind),
-}
-
 // The state of a conversation that is held.
-#[derive(Clone, Copy)]
+#[derive(Clone, Copy, PartialEq, Eq)]
 pub enum Phase {
     Opening,
     Running,
@@ -41,42 +34,34 @@ pub enum Next {
 pub const FLAG_SETTINGS: usize = 16;
 
 // What each counts as: the one list that `flag_kind` reads and the program `flags` prints. An entry goes by its flags as a binary number, FIN first.
-pub const KINDS: [Flags; FLAG_SETTINGS] = [
-    Flags::Wrong, // none of the four
-    Flags::Kind(FlagKind::Carry), // ACK
-    Flags::Kind(FlagKind::Reset), // RST
-    Flags::Kind(FlagKind::Reset), // RST ACK
-    Flags::Kind(FlagKind::Open), // SYN
-    Flags::Kind(FlagKind::Open), // SYN ACK
-    Flags::Wrong, // SYN RST
-    Flags::Wrong, // SYN RST ACK
-    Flags::Wrong, // FIN
-    Flags::Kind(FlagKind::End), // FIN ACK
-    Flags::Wrong, // FIN RST
-    Flags::Wrong, // FIN RST ACK
-    Flags::Wrong, // FIN SYN
-    Flags::Wrong, // FIN SYN ACK
-    Flags::Wrong, // FIN SYN RST
-    Flags::Wrong, // FIN SYN RST ACK
+pub const KINDS: [Option<FlagKind>; FLAG_SETTINGS] = [
+    None, // none of the four
+    Some(FlagKind::Carry), // ACK
+    Some(FlagKind::Reset), // RST
+    Some(FlagKind::Reset), // RST ACK
+    Some(FlagKind::Open), // SYN
+    Some(FlagKind::Open), // SYN ACK
+    None, // SYN RST
+    None, // SYN RST ACK
+    None, // FIN
+    Some(FlagKind::End), // FIN ACK
+    None, // FIN RST
+    None, // FIN RST ACK
+    None, // FIN SYN
+    None, // FIN SYN ACK
+    None, // FIN SYN RST
+    None, // FIN SYN RST ACK
 ];
-
-// What a flag adds to the entry's number.
-fn weight(flag: bool, n: usize) -> usize
-    ensures value { result ≡ cond flag n 0 }
-    ensures most { result ≤ n }
-{
-    if flag { n } else { 0 }
-}
 
 fn entry_of(fin: bool, syn: bool, rst: bool, ack: bool) -> usize
     ensures entry { result ≡ entry_of fin syn rst ack }
     ensures below { result < 16 }
 {
-    weight(fin, 8) + weight(syn, 4) + weight(rst, 2) + weight(ack, 1)
+    8 * usize::from(fin) + 4 * usize::from(syn) + 2 * usize::from(rst) + usize::from(ack)
 }
 
-// What the flags of a segment count as: called for each TCP segment that is judged.
-pub fn flag_kind(fin: bool, syn: bool, rst: bool, ack: bool) -> Flags
+// What the flags of a segment count as, None where they are wrong: called for each TCP segment that is judged.
+pub fn flag_kind(fin: bool, syn: bool, rst: bool, ack: bool) -> Option<FlagKind>
     ensures { result ≡ kind_of fin syn rst ack }
 {
     KINDS[entry_of(fin, syn, rst, ack)]
@@ -86,24 +71,11 @@ pub fn flag_kind(fin: bool, syn: bool, rst: bool, ack: bool) -> Flags
 pub fn next_of(f: Phase, k: FlagKind) -> Next
     ensures { result ≡ next_of f k }
 {
-    match f {
-        Phase::Opening => match k {
-            FlagKind::Open => Next::To(Phase::Opening),
-            FlagKind::Carry => Next::To(Phase::Running),
-            FlagKind::End => Next::To(Phase::Closing),
-            FlagKind::Reset => Next::Removed,
-        },
-        Phase::Running => match k {
-            FlagKind::Open => Next::No,
-            FlagKind::Carry => Next::To(Phase::Running),
-            FlagKind::End => Next::To(Phase::Closing),
-            FlagKind::Reset => Next::Removed,
-        },
-        Phase::Closing => match k {
-            FlagKind::Open => Next::No,
-            FlagKind::Carry => Next::To(Phase::Closing),
-            FlagKind::End => Next::To(Phase::Closing),
-            FlagKind::Reset => Next::Removed,
-        },
+    match (f, k) {
+        (Phase::Opening, FlagKind::Open) => Next::To(Phase::Opening),
+        (Phase::Opening | Phase::Running, FlagKind::Carry) => Next::To(Phase::Running),
+        (Phase::Closing, FlagKind::Carry) | (_, FlagKind::End) => Next::To(Phase::Closing),
+        (Phase::Running | Phase::Closing, FlagKind::Open) => Next::No,
+        (_, FlagKind::Reset) => Next::Removed,
     }
 }

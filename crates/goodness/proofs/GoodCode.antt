@@ -4,8 +4,8 @@ use Prim.Native.Nat.{ℕ, ◌+◌, ◌*◌, ◌/◌, ◌%◌, ◌^◌, ◌<◌, 
 use mathlib.Core.Path.{◌≡◌, refl, sym, ap, ◌∙◌}
 use mathlib.Core.Bool.{Bool, true, false, not, ◌&&◌, ◌||◌, false≢true}
 use mathlib.Core.List.{List, [], ◌∷◌}
-use lib.ListN.{length, get_or, drop, get_or-eq_default}
-use lib.Seq.{get_or-drop}
+use lib.ListN.{length, get_or, drop, take, get_or-eq_default}
+use lib.Seq.{get_or-drop, get_or-take}
 use lib.Bits.{bit_or, or_add_and, and_le_l, and_le_r}
 use lib.Dec.{ltb, eqb}
 use native.Mathlib.Omega.{arith}
@@ -43,19 +43,6 @@ use Rattle.places.proofs.HoldLaws.{free_holds, free_of}
 use Rattle.places.proofs.PlacesLaws.{at, PlacesGood, places_in_lem, places_out, none_held}
 
 -- ---- tests
-
-swap_free : (f c x : Bool) → f ≡ true → (f && c) ≡ (c && (f || x))
-swap_free true true x e = refl
-swap_free true false x e = refl
-swap_free false c x e = absurd (false≢true e)
-
-not_held : (f c x : Bool) → f ≡ false → x ≡ false → false ≡ (c && (f || x))
-not_held f true x e d = sym (rw (e, d))
-not_held f false x e d = refl
-
-held_plain : (f p b i y : Bool) → f ≡ false → i ≡ true → y ≡ true → p ≡ ((p && (not f || b)) && (f || (i && y)))
-held_plain f true b i y e d h = sym (rw (e, d, h))
-held_plain f false b i y e d h = refl
 
 and_swap : (a b c d : Bool) → ((a && b) && (c && d)) ≡ ((a && c) && (b && d))
 and_swap true true c d = refl
@@ -96,16 +83,10 @@ module _ (w : List ℕ) where
   abbrev plain : Bool
   plain = is_plain (place_of w)
 
-  pub plain_expected : (get_or w 1 0 % 2 ^ 32 ≡ 0 → ⊥) → false ≡ plain
-  plain_expected n = rw (ne_eqb (get_or w 1 0 % 2 ^ 32) 0 n)
-
   module _ (x : get_or w 1 0 % 2 ^ 32 ≡ 0) where
     -- the kind decides whether the addresses are looked at
     plain_kind : (k : Bool) → eqb (get_or w 0 0 / 4 % 2) 1 ≡ k → plain ≡ (k || (has32 (place_of w).quad.source && has32 (place_of w).quad.destination))
     plain_kind k e = rw (eq-eqb (get_or w 1 0 % 2 ^ 32) 0 x, e)
-
-    pub plain_ipv6 : get_or w 0 0 / 4 % 2 ≡ 1 → true ≡ plain
-    plain_ipv6 k = sym (plain_kind true (eq-eqb (get_or w 0 0 / 4 % 2) 1 k))
 
     pub plain_ipv4 : (get_or w 0 0 / 4 % 2 ≡ 1 → ⊥)
         → eqb (bit_or (bit_or (get_or w 2 0) (get_or w 4 0)) (bit_or (get_or w 3 0 / 2 ^ 32) (get_or w 5 0 / 2 ^ 32))) 0 ≡ plain
@@ -164,25 +145,6 @@ module _ (w : List ℕ) where
   pub filled_words : eqb all 0 ≡ fresh
   filled_words = both_ways (eqb all 0) fresh (λ e. zero_fresh (eqb-true all 0 e)) (λ e. eq-eqb all 0 (fresh_zero e))
 
-  -- what is tested at one place
-  abbrev good : Bool → ℕ → Bool
-  good is limit = place_good is limit (place_of w)
-
-  pub free_good : (is : Bool) (limit : ℕ) → get_or w 0 0 % 4 ≡ 0 → fresh ≡ good is limit
-  free_good is limit z = swap_free (is_free (place_of w)) (clean (place_of w)) (is && ltb (get_or w 0 0 / 16) limit) (eq-eqb (get_or w 0 0 % 4) 0 z)
-
-  pub held_beyond : (is : Bool) (limit : ℕ) → (get_or w 0 0 % 4 ≡ 0 → ⊥) → is ≡ false → false ≡ good is limit
-  held_beyond is limit z e = not_held (is_free (place_of w)) (clean (place_of w)) _ (ne_eqb (get_or w 0 0 % 4) 0 z) (rw e)
-
-  pub held_old : (is : Bool) (limit : ℕ) → (get_or w 0 0 % 4 ≡ 0 → ⊥) → is ≡ true → limit ≤ get_or w 0 0 / 16 → false ≡ good is limit
-  held_old is limit z e h =
-      not_held (is_free (place_of w)) (clean (place_of w)) _ (ne_eqb (get_or w 0 0 % 4) 0 z) (rw (e, le-ltb (get_or w 0 0 / 16) limit h))
-
-  pub held_good : (is : Bool) (limit : ℕ) → (get_or w 0 0 % 4 ≡ 0 → ⊥) → is ≡ true → get_or w 0 0 / 16 < limit → plain ≡ good is limit
-  held_good is limit z e h =
-      held_plain (is_free (place_of w)) plain (is_blank (place_of w)) is (ltb (get_or w 0 0 / 16) limit)
-      (ne_eqb (get_or w 0 0 % 4) 0 z) e (lt-ltb (get_or w 0 0 / 16) limit h)
-
 -- ---- the earlier places
 
 module _ (ws : List (List ℕ)) (j : ℕ) where
@@ -192,13 +154,14 @@ module _ (ws : List (List ℕ)) (j : ℕ) where
       (below_all (λ i. not (repeats (places_of ws) j i)) j
       (λ i m. ap (λ (b : Bool). not (not b && holds (at (places_of ws) j).quad (at (places_of ws) i))) (ap is_free (place_at_lem ws j) ∙ eq-eqb _ _ z)))
 
-  pub repeats_is : (i : ℕ) (q : Quad) (b : Bool) → (get_or (get_or ws j []) 0 0 % 4 ≡ 0 → ⊥) → q ≡ (place_of (get_or ws j [])).quad
-      → holds q (place_of (get_or ws i [])) ≡ b → not (repeats (places_of ws) j i) ≡ not b
-  repeats_is i q b z e h =
+  pub repeats_is : (i : ℕ) (q : Quad) (b : Bool) → i < j → (get_or (get_or ws j []) 0 0 % 4 ≡ 0 → ⊥) → q ≡ (place_of (get_or ws j [])).quad
+      → holds q (place_of (get_or (take j ws) i [])) ≡ b → not (repeats (places_of ws) j i) ≡ not b
+  repeats_is i q b l z e h =
       ap (λ (p : Place). not (not (is_free p) && holds p.quad (at (places_of ws) i))) (place_at_lem ws j)
       ∙ ap (λ (p : Place). not (not (is_free (place_of (get_or ws j []))) && holds (place_of (get_or ws j [])).quad p)) (place_at_lem ws i)
       ∙ ap (λ (f : Bool). not (not f && holds (place_of (get_or ws j [])).quad (place_of (get_or ws i [])))) (ne_eqb (get_or (get_or ws j []) 0 0 % 4) 0 z)
       ∙ ap (λ (x : Quad). not (holds x (place_of (get_or ws i [])))) (sym e)
+      ∙ ap (λ (w : List ℕ). not (holds q (place_of w))) (sym (get_or-take j ws i [] l))
       ∙ ap not h
 
 -- ---- the places of a rule

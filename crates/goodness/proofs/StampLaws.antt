@@ -1,50 +1,26 @@
 -- Where no two stamps are alike, no conversation stands twice.
 -- Assumes nothing.
-use Prim.Native.Nat.{ℕ, ◌+◌, ◌%◌, ◌<◌}
+use Prim.Native.Nat.{ℕ, ◌<◌, ◌≤◌}
 use mathlib.Core.Path.{◌≡◌, sym, ap, ◌∙◌}
-use mathlib.Core.Bool.{Bool, true, cond, not, false≢true}
-use mathlib.Core.List.{List, []}
-use lib.ListN.{length, get_or, set}
-use lib.Seq.{get_or-set_same, get_or-set_other}
+use mathlib.Core.Bool.{Bool, true, false, cond, not, false≢true}
+use mathlib.Core.List.{List}
+use lib.ListN.{length, get_or, take}
 use lib.Dec.{eqb}
 use native.Mathlib.Omega.{arith}
-use borrow.Author.Tests.{eq-eqb, ne_eqb, eqb-true, eqb-false, not-true}
-use Rattle.numbers.proofs.Lists.{and_both, below_at, below_all}
-use Rattle.places.specs.Places.{Place, free, is_free, place_of, places_of, holds}
+use Rattle.std.specs.List.{IsAnyAnswer}
+use Rattle.std.proofs.lemmas.List.{get_or-take, length-take-le}
+use borrow.Author.Tests.{eq-eqb, not-true}
+use Rattle.numbers.proofs.Lists.{and_both, below_at, below_all, below_fails}
+use Rattle.places.specs.Places.{Place, free, is_free, places_of, holds}
 use Rattle.places.specs.Good.{repeats, alone, once}
 use Rattle.goodness.specs.Stamps.{stamp_of, place_stamp, Stamped, new_at, distinct}
 use Rattle.numbers.proofs.Tests.{by_test}
-use Rattle.places.proofs.PlaceLaws.{place_at_lem}
 use Rattle.places.proofs.HoldLaws.{holds_is}
-
--- ---- one place
-
-module _ (j : ℕ) (w : List ℕ) where
-  pub stamp_free : get_or w 0 0 % 4 ≡ 0 → j ≡ place_stamp j (place_of w)
-  stamp_free z = rw (eq-eqb (get_or w 0 0 % 4) 0 z)
-
-  pub stamp_held : (r : ℕ) → (get_or w 0 0 % 4 ≡ 0 → ⊥) → r ≡ stamp_of (place_of w).quad → r ≡ place_stamp j (place_of w)
-  stamp_held r z e = rw (ne_eqb (get_or w 0 0 % 4) 0 z) e
 
 -- ---- the loop: the stamps below j are made
 
 abbrev pub StampedTo : List (List ℕ) → List ℕ → ℕ → Type 0
 StampedTo ws m j = (k : ℕ) → k < j → get_or m k 0 ≡ place_stamp k (get_or (places_of ws) k free)
-
-pub stamped_next :
-    (ws : List (List ℕ)) (m : List ℕ) (j x : ℕ) → j < length m → StampedTo ws m j → x ≡ place_stamp j (place_of (get_or ws j []))
-    → StampedTo ws (set m j x) (j + 1)
-stamped_next ws m j x l so e k h =
-    by_test (eqb k j)
-    (λ q. here (eqb-true k j q))
-    (λ q. get_or-set_other m j k x 0 (eqb-false k j q) ∙ so k (omega (arith, eqb-false k j q)))
-  where
-    own : get_or (set m j x) j 0 ≡ place_stamp j (get_or (places_of ws) j free)
-    own = get_or-set_same m j x 0 l ∙ e ∙ ap (place_stamp j) (sym (place_at_lem ws j))
-
-    here : k ≡ j → get_or (set m j x) k 0 ≡ place_stamp k (get_or (places_of ws) k free)
-    here q =
-        ap (λ (i : ℕ). get_or (set m j x) i 0) q ∙ own ∙ ap (λ (i : ℕ). place_stamp i (get_or (places_of ws) i free)) (sym q)
 
 -- ---- all places
 
@@ -73,3 +49,15 @@ module _ (ps : List Place) (m : List ℕ) (told : Stamped ps m) where
       no j i l h e =
           let t = below_at (λ i. not (eqb (get_or m i 0) (get_or m j 0))) j i (below_at (new_at m) 8 j d h) l in
           false≢true (sym (not-true (eqb (get_or m i 0) (get_or m j 0)) t) ∙ eq-eqb (get_or m i 0) (get_or m j 0) (alike j i l h e))
+
+-- ---- what the code's `contains` tells: no stamp below j is that at j
+
+pub new_is : (m : List ℕ) (j : ℕ) (b : Bool) → j ≤ length m → IsAnyAnswer (λ y t. eqb y (get_or m j 0) ≡ t) (take j m) b → not b ≡ new_at m j
+new_is m j true n h =
+    let l : h.0 < j = omega (arith, h.1, length-take-le j m n) in
+    sym (below_fails _ j h.0 l (ap (λ (y : ℕ). not (eqb y (get_or m j 0))) (sym (get_or-take j m h.0 0 l)) ∙ ap not (h.2 0)))
+new_is m j false n h =
+    sym
+    (below_all _ j
+    (λ i l.
+    ap (λ (y : ℕ). not (eqb y (get_or m j 0))) (sym (get_or-take j m i 0 l)) ∙ ap not (h i 0 (omega arith) (omega (arith, length-take-le j m n)))))

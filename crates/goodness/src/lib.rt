@@ -10,21 +10,21 @@ ghost use Rattle.places.specs.Good.{is_fresh, is_plain, place_good, each_good, a
 mod stamps;
 
 use places::place::{is_held_by, quad};
-use places::shape::*;
 use places::sockets::held;
 use places::*;
 use stamps::{are_distinct, stamps};
-use table::{PLACES, RULES, Room};
+use table::{PLACES, Room};
 
 // All words in one: zero where the place is as in a fresh record, and only there.
+#[tactic(auto, using(crate::proofs::GoodCode::filled_words))]
 fn filled(p: &PlaceWords) -> u64
     ensures { eqb result 0 ≡ is_fresh (place_of p.now) }
 {
-    tell_place(*p);
     p[HELD] | p[BOTH_PORTS] | p[SOURCE_HIGH] | p[SOURCE] | p[DESTINATION_HIGH] | p[DESTINATION]
 }
 
 // Nothing that has no meaning yet, and IPv4 addresses of 32 bits.
+#[tactic(auto, using(crate::proofs::GoodCode::plain_ipv4))]
 fn is_plain(p: &PlaceWords) -> bool
     ensures { result ≡ is_plain (place_of p.now) }
 {
@@ -47,45 +47,35 @@ fn good_place(is: bool, limit: u32, p: &PlaceWords) -> bool
     if w % KIND_BIT == 0 {
         return filled(p) == 0;
     }
-    if !is {
-        return false;
-    }
-    if w / AGE_BIT >= numbers::wide64(limit) {
-        return false;
-    }
-    is_plain(p)
+    is && w / AGE_BIT < u64::from(limit) && is_plain(p)
 }
 
 // No earlier place holds the conversation of the place at j.
+#[tactic(auto, using(numbers::proofs::Lists::below_none, numbers::proofs::Lists::below_next, crate::proofs::GoodCode::repeats_free))]
 fn is_alone(j: usize, ps: &RulePlaces) -> bool
     requires { j < most_places }
     ensures { result ≡ alone (places_of ps.now) j }
 {
-    tell_places(*ps);
     if ps[j][HELD] % KIND_BIT == 0 {
         return true;
     }
     let q = quad(&ps[j]);
-    let mut i: usize = 0;
-    while i < j {
-        if is_held_by(q, &ps[i]) {
+    for p in &ps[..j] {
+        if is_held_by(q, p) {
             return false;
         }
-        i += 1;
     }
     true
 }
 
 // All words of the places of a rule in one: zero where they are as in a fresh record, and only there.
+#[tactic(auto, using(numbers::proofs::Lists::below_none))]
 fn filled_rule(ps: &RulePlaces) -> u64
     ensures { eqb result 0 ≡ is_empty ps.now }
 {
-    tell_places(*ps);
     let mut any = 0;
-    let mut j: usize = 0;
-    while j < PLACES {
-        any = any | filled(&ps[j]);
-        j += 1;
+    for p in ps {
+        any |= filled(p);
     }
     any
 }
@@ -102,27 +92,21 @@ pub fn good_beyond(from: usize, all: &AllPlaces) -> bool
     requires { from ≤ most_rules }
     ensures { result ≡ all_below (empty_from from all.now) most_rules }
 {
-    tell_all(*all);
     let mut any = 0;
-    let mut i = from;
-    while i < RULES {
-        any = any | filled_rule(&all[i]);
-        i += 1;
+    for ps in &all[from..] {
+        any |= filled_rule(ps);
     }
     any == 0
 }
 
 // Each place by itself.
+#[tactic(auto, using(numbers::proofs::Lists::below_none, numbers::proofs::Lists::below_next, crate::proofs::GoodCode::each_turn))]
 fn good_each(m: Room, ps: &RulePlaces) -> bool
     ensures { result ≡ each_good m.places m.limit (places_of ps.now) }
 {
-    tell_places(*ps);
-    let n = numbers::count8(m.places);
-    let mut j: usize = 0;
-    while j < PLACES {
-        if good_place(j < n, m.limit, &ps[j]) {
-            j += 1;
-        } else {
+    let n = usize::from(m.places);
+    for (j, p) in ps.iter().enumerate() {
+        if !good_place(j < n, m.limit, p) {
             return false;
         }
     }
@@ -134,27 +118,23 @@ fn good_numbers(m: Room, ps: &RulePlaces) -> bool
     requires { (k : Bool) → held_by k (places_of ps.now) ≤ m.places }
     ensures { result ≡ every (number_tests m (places_of ps.now)) }
 {
-    if (m.places <= m.number0) & (m.places <= m.number1) {
+    if m.places <= m.number0 && m.places <= m.number1 {
         return true;
     }
     let h = held(ps);
-    (h.first <= m.number0) & (h.second <= m.number1)
+    h.first <= m.number0 && h.second <= m.number1
 }
 
 // Conversations are compared only where two stamps are alike.
+#[tactic(auto, using(numbers::proofs::Lists::below_none, numbers::proofs::Lists::below_next))]
 fn are_alone(ps: &RulePlaces) -> bool
     ensures { result ≡ once (places_of ps.now) }
 {
-    tell_places(*ps);
-    let m = stamps(ps);
-    if are_distinct(&m) {
+    if are_distinct(&stamps(ps)) {
         return true;
     }
-    let mut j: usize = 0;
-    while j < PLACES {
-        if is_alone(j, ps) {
-            j += 1;
-        } else {
+    for j in 0..PLACES {
+        if !is_alone(j, ps) {
             return false;
         }
     }
@@ -165,15 +145,11 @@ fn are_alone(ps: &RulePlaces) -> bool
 pub fn good_room(m: Room, ps: &RulePlaces) -> bool
     ensures { result ≡ every (places_tests m (places_of ps.now)) }
 {
-    tell_places(*ps);
-    if ps[0][HELD] == 0 {
-        if good_empty(ps) {
-            return true;
-        }
+    if ps[0][HELD] == 0 && good_empty(ps) {
+        return true;
     }
-    if good_each(m, ps) {
-        are_alone(ps) & good_numbers(m, ps)
-    } else {
-        false
+    if !good_each(m, ps) {
+        return false;
     }
+    are_alone(ps) && good_numbers(m, ps)
 }

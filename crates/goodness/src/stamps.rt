@@ -4,7 +4,6 @@ ghost use Rattle.places.specs.Places.{place_of, places_of};
 ghost use Rattle.table.specs.Table.{most_places};
 ghost use Rattle.goodness.specs.Stamps.{stamp_of, place_stamp, Stamped, new_at, distinct};
 
-use places::shape::*;
 use places::*;
 use table::PLACES;
 
@@ -16,6 +15,7 @@ const KEPT: u64 = 281474976710656;
 const LIFT: u64 = 65536;
 
 // All bits go in but kind and socket: a quadruple on both sockets has one stamp and is compared in full. Of a socket's IPv4 conversations with one destination no two have one; who chooses IPv6 addresses can choose such, which costs time and no answer.
+#[tactic(auto, unfolding(crate::specs::Stamps::stamp_of))]
 fn stamp(p: &PlaceWords) -> u64
     ensures { result ≡ stamp_of (place_of p.now).quad }
 {
@@ -30,20 +30,18 @@ fn stamp_at(j: usize, p: &PlaceWords) -> u64
     ensures { result ≡ place_stamp j (place_of p.now) }
 {
     if p[HELD] % KIND_BIT == 0 {
-        return j as u64;
+        j as u64
+    } else {
+        stamp(p)
     }
-    stamp(p)
 }
 
 pub(crate) fn stamps(ps: &RulePlaces) -> Stamps
     ensures { Stamped (places_of ps.now) result }
 {
-    tell_places(*ps);
     let mut m = [0; PLACES];
-    let mut j: usize = 0;
-    while j < PLACES {
-        m[j] = stamp_at(j, &ps[j]);
-        j += 1;
+    for (j, p) in ps.iter().enumerate() {
+        m[j] = stamp_at(j, p);
     }
     m
 }
@@ -53,25 +51,16 @@ fn is_new(j: usize, m: &Stamps) -> bool
     requires { j < most_places }
     ensures { result ≡ new_at m.now j }
 {
-    let mut i: usize = 0;
-    while i < j {
-        if m[i] == m[j] {
-            return false;
-        }
-        i += 1;
-    }
-    true
+    !m[..j].contains(&m[j])
 }
 
 // No two are alike.
+#[tactic(auto, using(numbers::proofs::Lists::below_none, numbers::proofs::Lists::below_next))]
 pub(crate) fn are_distinct(m: &Stamps) -> bool
     ensures { result ≡ distinct m.now }
 {
-    let mut j: usize = 0;
-    while j < PLACES {
-        if is_new(j, m) {
-            j += 1;
-        } else {
+    for j in 0..PLACES {
+        if !is_new(j, m) {
             return false;
         }
     }

@@ -19,8 +19,7 @@ use Rattle.payloads.specs.declared.Transport.{Transport}
 use Rattle.payloads.specs.declared.Transport.TheVariants as transport
 use Rattle.payloads.specs.declared.Message.{Message}
 use Rattle.payloads.specs.declared.Bundle.{Bundle}
-use Rattle.payloads.specs.declared.Someip.{Someip}
-use Rattle.payloads.specs.declared.Someip.TheVariants as someip
+use Rattle.std.specs.Prelude.{Option, Some, None}
 use Rattle.payloads.specs.Someip.{message_at, cut, messages_in, messages_of}
 use Rattle.payloads.specs.Inside.{CutInside}
 use Rattle.payloads.proofs.Cutting.{Walked, walked, cut_nothing}
@@ -152,7 +151,7 @@ transport_udp r x u e = rw e (ports_present r kind.Udp u.source u.destination)
 
 -- ---- SOME/IP: a is what the code found of its marks, c of its messages
 
-module _ (r : SomeipSettings) (s : List ℕ) (x : Someip) where
+module _ (r : SomeipSettings) (s : List ℕ) (x : Option Bundle) where
   pub someip_unset_lem : {a : Bool} → a ≡ every (someip_unset r) → a ≡ true → true ≡ someip_matches r s x
   unfolding someip_matches
   someip_unset_lem e h = let q : every (someip_unset r) ≡ true = sym e ∙ h in rw q refl
@@ -161,12 +160,12 @@ module _ (r : SomeipSettings) (s : List ℕ) (x : Someip) where
   unfolding someip_matches
   someip_set e h k = let q : every (someip_unset r) ≡ false = sym e ∙ h in rw q k
 
-  pub someip_lacks : {a : Bool} → a ≡ every (someip_unset r) → a ≡ false → x ≡ someip.Absent → false ≡ someip_matches r s x
-  someip_lacks e h k = someip_set e h (ap (λ (y : Someip). messages_agree r (messages_of s y)) (sym k))
+  pub someip_lacks : {a : Bool} → a ≡ every (someip_unset r) → a ≡ false → x ≡ None → false ≡ someip_matches r s x
+  someip_lacks e h k = someip_set e h (ap (λ (y : Option Bundle). messages_agree r (messages_of s y)) (sym k))
 
   pub someip_tells :
-      {a c : Bool} {z : SomeipSettings} (b : Bundle) → a ≡ every (someip_unset r) → a ≡ false → x ≡ someip.Present b → z ≡ r
-      → c ≡ messages_agree z (messages_of s (someip.Present b)) → c ≡ someip_matches r s x
+      {a c : Bool} {z : SomeipSettings} (b : Bundle) → a ≡ every (someip_unset r) → a ≡ false → x ≡ Some b → z ≡ r
+      → c ≡ messages_agree z (messages_of s (Some b)) → c ≡ someip_matches r s x
   someip_tells b e h k q g = someip_set e h (rw (k, ← q) g)
 
 -- every message of those still to be read agrees

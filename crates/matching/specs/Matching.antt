@@ -1,21 +1,20 @@
 -- Does a layer match, and does a rule. Document 01, 'Rules and vehicle states'; change requests 2/12, 3/12 and 6/12.
 -- s is the frame's bytes.
 -- Assumes nothing.
+use Rattle.std.specs.Prelude.{Option, Some, None}
 use Rattle.std.specs.Prelude.{ℕ, List, [], ◌∷◌, ◌++◌, Bool, false, ◌||◌, eqb}
 use Rattle.numbers.specs.Lists.{every, every_of}
 use Rattle.packets.specs.declared.Tag.{Tag}
-use Rattle.packets.specs.declared.Tag.TheVariants as tag
 use Rattle.packets.specs.declared.Link.{Link}
 use Rattle.packets.specs.declared.Packet.{Packet}
 use Rattle.packets.specs.declared.Packet6.{Packet6}
-use Rattle.packets.specs.declared.Chain.{Chain}
-use Rattle.packets.specs.declared.Chain.TheVariants as chain
+use Rattle.packets.specs.declared.Upper.{Upper}
 use Rattle.packets.specs.declared.Ip.{Ip}
 use Rattle.packets.specs.declared.Ip.TheVariants as ip
 use Rattle.payloads.specs.declared.Transport.{Transport}
 use Rattle.payloads.specs.declared.Transport.TheVariants as transport
 use Rattle.payloads.specs.declared.Message.{Message}
-use Rattle.payloads.specs.declared.Someip.{Someip}
+use Rattle.payloads.specs.declared.Bundle.{Bundle}
 use Rattle.payloads.specs.Someip.{messages_of}
 use Rattle.layers.specs.Seen.{Seen}
 use Rattle.table.specs.declared.Kind.{Kind}
@@ -31,9 +30,9 @@ use Rattle.addresses.specs.declared.Wide.{Wide}
 use Rattle.table.specs.declared.IpSettings.{IpSettings}
 
 -- Link, which is always present. "VLAN settings never agree with an untagged frame"
-abbrev pub tag_tests : LinkSettings → Tag → List Bool
-tag_tests r tag.Untagged = is_unset r.vlan ∷ is_unset r.priority ∷ []
-tag_tests r (tag.Tagged priority vlan) = agrees eqb r.vlan vlan ∷ agrees eqb r.priority priority ∷ []
+abbrev pub tag_tests : LinkSettings → Option Tag → List Bool
+tag_tests r None = is_unset r.vlan ∷ is_unset r.priority ∷ []
+tag_tests r (Some t) = agrees eqb r.vlan t.vlan ∷ agrees eqb r.priority t.priority ∷ []
 
 -- 6/12: "A rule may name a socket, 0 or 1, or leave it unset; it belongs to the link layer"
 abbrev pub link_tests : LinkSettings → Bool → Link → List Bool
@@ -60,9 +59,9 @@ ipv4_tests r p =
     ∷ []
 
 -- 2/12: "An IPv6 protocol setting is compared with the number after the chain and agrees with nothing where the chain fails"
-abbrev pub number_agrees : ℕ → Chain → Bool
-number_agrees v chain.Fails = false
-number_agrees v (chain.Ends n at len) = eqb v n
+abbrev pub number_agrees : ℕ → Option Upper → Bool
+number_agrees v None = false
+number_agrees v (Some upper) = eqb v upper.number
 
 abbrev pub ipv6_tests : IpSettings Wide → Packet6 → List Bool
 ipv6_tests z p =
@@ -113,7 +112,7 @@ abbrev pub messages_agree : SomeipSettings → List Message → Bool
 messages_agree r [] = false
 messages_agree r (m ∷ ms) = every_of (message_agrees r) (m ∷ ms)
 
-unfoldable pub someip_matches : SomeipSettings → List ℕ → Someip → Bool
+unfoldable pub someip_matches : SomeipSettings → List ℕ → Option Bundle → Bool
 someip_matches r s x = layer_matches (someip_unset r) (messages_agree r (messages_of s x))
 
 -- the four layers, from link upward. "A rule matches if all four layers do"

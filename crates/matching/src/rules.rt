@@ -1,7 +1,6 @@
 // Does a layer of a rule match what a frame shows of it, and does the rule?
-ghost use Rattle.std.specs.Prelude.{◌≡◌};
+ghost use Rattle.std.specs.Prelude.{◌≡◌, Some};
 ghost use Rattle.numbers.specs.Lists.{every, leading};
-ghost use Rattle.payloads.specs.declared.Someip.TheVariants.{Present};
 ghost use Rattle.payloads.specs.Someip.{messages_of};
 ghost use Rattle.payloads.specs.Inside.{BundleInside, SomeipInside};
 ghost use Rattle.layers.specs.Inside.{Inside};
@@ -31,72 +30,40 @@ use table::words::RuleWords;
 use table::{words, *};
 
 // VLAN settings never agree with an untagged frame.
-pub(crate) fn tag_agrees(r: LinkSettings, x: Tag) -> bool
-    ensures { result ≡ every (tag_tests r x) }
+pub(crate) fn tag_agrees(r: LinkSettings, tag: Option<Tag>) -> bool
+    ensures { result ≡ every (tag_tests r tag) }
 {
-    let vlan = r.vlan;
-    let priority = r.priority;
-    match x {
-        Tag::Untagged => unset16(vlan) & unset8(priority),
-        Tag::Tagged {
-            priority: p,
-            vlan: v,
-        } => agrees16(vlan, v) & agrees8(priority, p),
+    match tag {
+        None => r.vlan.is_unset() & r.priority.is_unset(),
+        Some(t) => agrees(r.vlan, t.vlan) & agrees(r.priority, t.priority),
     }
 }
 
+#[tactic(auto, unfolding(crate::specs::Matching::link_matches))]
 pub(crate) fn link_matches(r: LinkSettings, second: bool, x: Link) -> bool
     ensures { result ≡ link_matches r second x }
 {
-    let destination = r.destination;
-    let source = r.source;
-    let ether = r.ether;
-    let socket = r.socket;
-    let tag = x.tag;
-    if !agrees64(destination, x.destination) {
-        return false;
-    }
-    if !agrees64(source, x.source) {
-        return false;
-    }
-    if !agrees16(ether, x.ether) {
-        return false;
-    }
-    if !agrees8(socket, socket_number(second)) {
-        return false;
-    }
-    tag_agrees(r, tag)
+    agrees(r.destination, x.destination)
+        && agrees(r.source, x.source)
+        && agrees(r.ether, x.ether)
+        && agrees(r.socket, socket_number(second))
+        && tag_agrees(r, x.tag)
 }
 
 pub(crate) fn ipv4_agrees(r: Ipv4Settings, p: Packet) -> bool
     ensures { result ≡ every (ipv4_tests r p) }
 {
-    let source = r.source;
-    let destination = r.destination;
-    let protocol = r.protocol;
-    if !agrees_prefix(source, p.source) {
-        return false;
-    }
-    if !agrees_prefix(destination, p.destination) {
-        return false;
-    }
-    agrees8(protocol, p.protocol)
+    agrees_prefix(r.source, p.source)
+        && agrees_prefix(r.destination, p.destination)
+        && agrees(r.protocol, p.protocol)
 }
 
 pub(crate) fn ipv6_agrees(r: Ipv6Settings, p: Packet6) -> bool
     ensures { result ≡ every (ipv6_tests r p) }
 {
-    let source = r.source;
-    let destination = r.destination;
-    let protocol = r.protocol;
-    let chain = p.chain;
-    if !agrees_prefix6(source, p.source) {
-        return false;
-    }
-    if !agrees_prefix6(destination, p.destination) {
-        return false;
-    }
-    agrees_number(protocol, chain)
+    agrees_prefix(r.source, p.source)
+        && agrees_prefix(r.destination, p.destination)
+        && agrees_number(r.protocol, p.chain)
 }
 
 // Absent: no setting. Present: every setting agrees, an unset one always and one of the other kind never.
@@ -123,26 +90,15 @@ pub(crate) fn ip_matches(r: &RuleWords, x: Ip) -> bool
 pub(crate) fn ports_agree(r: TransportSettings, k: Kind, from: u16, to: u16) -> bool
     ensures { result ≡ ports_agree r k from to }
 {
-    let kind = r.kind;
-    let source = r.source;
-    let destination = r.destination;
-    if !agrees_kind(kind, k) {
-        return false;
-    }
-    if !agrees_range(source, from) {
-        return false;
-    }
-    agrees_range(destination, to)
+    agrees_kind(r.kind, k) && agrees_range(r.source, from) && agrees_range(r.destination, to)
 }
 
+#[tactic(auto, using(crate::proofs::Agreeing::transport_absent, crate::proofs::Agreeing::transport_tcp, crate::proofs::Agreeing::transport_udp))]
 pub(crate) fn transport_matches(r: TransportSettings, x: Transport) -> bool
     ensures { result ≡ transport_matches r x }
 {
-    let kind = r.kind;
-    let source = r.source;
-    let destination = r.destination;
     match x {
-        Transport::Absent => unset_kind(kind) & (unset_range(source) & unset_range(destination)),
+        Transport::Absent => { r.kind.is_unset() & r.source.is_unset() & r.destination.is_unset() }
         Transport::Tcp(t) => ports_agree(r, Kind::Tcp, t.source, t.destination),
         Transport::Udp(u) => ports_agree(r, Kind::Udp, u.source, u.destination),
     }
@@ -151,30 +107,17 @@ pub(crate) fn transport_matches(r: TransportSettings, x: Transport) -> bool
 fn message_agrees(r: SomeipSettings, m: Message) -> bool
     ensures { result ≡ message_agrees r m }
 {
-    let service = r.service;
-    let method = r.method;
-    let version = r.version;
-    let kind = r.kind;
-    let code = r.code;
-    if !agrees16(service, m.service) {
-        return false;
-    }
-    if !agrees16(method, m.method) {
-        return false;
-    }
-    if !agrees8(version, m.version) {
-        return false;
-    }
-    if !agrees8(kind, m.kind) {
-        return false;
-    }
-    agrees8(code, m.code)
+    agrees(r.service, m.service)
+        && agrees(r.method, m.method)
+        && agrees(r.version, m.version)
+        && agrees(r.kind, m.kind)
+        && agrees(r.code, m.code)
 }
 
-// Every message, one behind the other, up to the first that does not agree.
+// Every message, one behind the other, up to the first that does not agree. A while and not a for: a message tells where the next one stands.
 fn messages_agree(r: SomeipSettings, s: &[u8], b: Bundle) -> bool
     requires { BundleInside s.now b }
-    ensures { result ≡ messages_agree r (messages_of s.now (Present b)) }
+    ensures { result ≡ messages_agree r (messages_of s.now (Some b)) }
 {
     let mut at = b.payload;
     let mut len = b.plen;
@@ -191,7 +134,7 @@ fn messages_agree(r: SomeipSettings, s: &[u8], b: Bundle) -> bool
 }
 
 // No setting: every frame. Else the layer is present and each message agrees.
-pub(crate) fn someip_matches(r: &RuleWords, s: &[u8], x: Someip) -> bool
+pub(crate) fn someip_matches(r: &RuleWords, s: &[u8], x: Option<Bundle>) -> bool
     requires { SomeipInside s.now x }
     ensures { result ≡ someip_matches (someip_in r.now) s.now x }
 {
@@ -199,29 +142,27 @@ pub(crate) fn someip_matches(r: &RuleWords, s: &[u8], x: Someip) -> bool
         return true;
     }
     match x {
-        Someip::Absent => false,
-        Someip::Present(b) => messages_agree(words::someip(r), s, b),
+        None => false,
+        Some(b) => messages_agree(words::someip(r), s, b),
     }
 }
 
 // The layers that match, from link upward to the first that does not.
+#[tactic(auto, unfolding(crate::specs::Matching::layer_tests))]
 pub fn layers_matched(r: &RuleWords, second: bool, s: &[u8], l: Layers) -> usize
     requires { Inside s.now l }
     ensures { result ≡ leading (layer_tests (rule_in r.now) (seen second s.now l)) }
 {
-    let ip = l.ip;
-    let transport = l.transport;
-    let someip = l.someip;
     if !link_matches(words::link(r), second, l.link) {
         return 0;
     }
-    if !ip_matches(r, ip) {
+    if !ip_matches(r, l.ip) {
         return 1;
     }
-    if !transport_matches(words::transport(r), transport) {
+    if !transport_matches(words::transport(r), l.transport) {
         return 2;
     }
-    if !someip_matches(r, s, someip) {
+    if !someip_matches(r, s, l.someip) {
         return 3;
     }
     4

@@ -9,15 +9,15 @@ use mathlib.Core.List.{List, [], map}
 use lib.ListN.{length, get_or, set, length-map, get_or-map}
 use borrow.Author.Tests.{lt-ltb, le-ltb, ltb-true, eq-eqb, ne_eqb}
 use Rattle.numbers.specs.Lists.{every_of, firsts, All}
-use Rattle.numbers.proofs.Lists.{firsts_next, firsts_map}
-use Rattle.table.specs.declared.Tracking.{Tracking}
-use Rattle.table.specs.declared.Tracking.TheVariants as tracking
+use Rattle.numbers.proofs.Lists.{firsts_next}
 use Rattle.places.specs.Places.{Place, free, is_free, place_of, places_of, Fits, ShapedPlace}
 use Rattle.places.specs.Ageing.{with_age, aged_place, aged_places}
 use Rattle.places.specs.Good.{young, room_in}
 use Rattle.numbers.proofs.Tests.{by_test, by_less, or_rest}
 use Rattle.numbers.proofs.Elements.{map_same, map_two, map_set, All-anew}
 use Rattle.places.proofs.PlaceLaws.{place_at_lem, age_set, free_fits}
+use Rattle.table.specs.declared.Room.{Room}
+use Rattle.std.specs.Prelude.{Option, Some, None}
 
 -- ---- one place
 
@@ -76,14 +76,14 @@ place_add limit a e p =
 -- ---- the places of a rule
 
 -- no time
-pub places_zero : (t : Tracking) (ps : List Place) → every_of (young (room_in t).limit) ps ≡ true → aged_places t 0 ps ≡ ps
-places_zero tracking.Unset ps y = refl
-places_zero (tracking.Set m) ps y = map_same (aged_place m.limit 0) (young m.limit) (place_zero m.limit) ps y
+pub places_zero : (t : Option Room) (ps : List Place) → every_of (young (room_in t).limit) ps ≡ true → aged_places t 0 ps ≡ ps
+places_zero None ps y = refl
+places_zero (Some m) ps y = map_same (aged_place m.limit 0) (young m.limit) (place_zero m.limit) ps y
 
 -- one time after the other
-pub places_add : (t : Tracking) (a e : ℕ) (ps : List Place) → aged_places t e (aged_places t a ps) ≡ aged_places t (a + e) ps
-places_add tracking.Unset a e ps = refl
-places_add (tracking.Set m) a e ps =
+pub places_add : (t : Option Room) (a e : ℕ) (ps : List Place) → aged_places t e (aged_places t a ps) ≡ aged_places t (a + e) ps
+places_add None a e ps = refl
+places_add (Some m) a e ps =
     map_two (aged_place m.limit e) (aged_place m.limit a) (aged_place m.limit (a + e)) (place_add m.limit a e) ps
 
 pub at_aged : (limit e : ℕ) (ps : List Place) (i : ℕ) → get_or (map (aged_place limit e) ps) i free ≡ aged_place limit e (get_or ps i free)
@@ -91,13 +91,13 @@ unfolding aged_place
 at_aged limit e ps i = get_or-map (aged_place limit e) ps i free
 
 -- as many as before, and each fits into words as before
-pub aged_length : (t : Tracking) (e : ℕ) (ps : List Place) → length (aged_places t e ps) ≡ length ps
-aged_length tracking.Unset e ps = refl
-aged_length (tracking.Set m) e ps = length-map ps (aged_place m.limit e)
+pub aged_length : (t : Option Room) (e : ℕ) (ps : List Place) → length (aged_places t e ps) ≡ length ps
+aged_length None e ps = refl
+aged_length (Some m) e ps = length-map ps (aged_place m.limit e)
 
-pub aged_all_fit : (t : Tracking) (e : ℕ) (ps : List Place) → All Fits ps → All Fits (aged_places t e ps)
-aged_all_fit tracking.Unset e ps h = h
-aged_all_fit (tracking.Set m) e ps h = All-anew (aged_place m.limit e) Fits (aged_fits m.limit e) ps h
+pub aged_all_fit : (t : Option Room) (e : ℕ) (ps : List Place) → All Fits ps → All Fits (aged_places t e ps)
+aged_all_fit None e ps h = h
+aged_all_fit (Some m) e ps h = All-anew (aged_place m.limit e) Fits (aged_fits m.limit e) ps h
 
 -- ---- the branches of the code
 
@@ -112,13 +112,9 @@ module _ (limit elapsed : ℕ) (w : List ℕ) where
   pub place_old : (get_or w 0 0 % 4 ≡ 0 → ⊥) → limit ≤ (place_of w).age + elapsed → free ≡ aged_place limit elapsed (place_of w)
   place_old h m = sym (aged_gone limit elapsed (place_of w) (ne_eqb (get_or w 0 0 % 4) 0 h) m)
 
--- one turn of the loop, and its end
+-- one turn of the loop
 pub places_turn : (f : Place → Place) (ps₀ ps : List (List ℕ)) (j : ℕ) (w : List ℕ) → places_of ps ≡ firsts (λ i. f) j (places_of ps₀)
     → place_of w ≡ f (place_of (get_or ps j [])) → places_of (set ps j w) ≡ firsts (λ i. f) (j + 1) (places_of ps₀)
 places_turn f ps₀ ps j w e h =
     map_set place_of ps j w
     ∙ firsts_next (λ i. f) free j (places_of ps₀) (places_of ps) (place_of w) e (h ∙ ap f (sym (place_at_lem ps j)))
-
-pub places_turned : (f : Place → Place) (ps₀ ps : List (List ℕ)) (j : ℕ) → j ≡ 8 → length ps₀ ≡ 8 → places_of ps ≡ firsts (λ i. f) j (places_of ps₀)
-    → places_of ps ≡ map f (places_of ps₀)
-places_turned f ps₀ ps j n h e = e ∙ firsts_map f j (places_of ps₀) (omega (arith, length-map ps₀ place_of))

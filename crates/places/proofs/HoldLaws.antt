@@ -1,17 +1,19 @@
 -- Which place holds a quadruple.
 -- Assumes nothing.
-use Prim.Native.Nat.{ℕ, ◌%◌}
+use Prim.Native.Nat.{ℕ}
 use mathlib.Core.Path.{◌≡◌, refl, sym, ap, ◌∙◌}
-use mathlib.Core.Bool.{Bool, true, false, ◌&&◌, not, beq}
+use mathlib.Core.Bool.{Bool, true, false, not, beq}
 use mathlib.Core.List.{List, [], ◌∷◌}
-use lib.ListN.{get_or}
+use lib.ListN.{length, get_or}
 use lib.Dec.{eqb}
-use borrow.Author.Tests.{eqb-true, eq-eqb, ne_eqb, not-true}
+use borrow.Author.Tests.{eqb-true, eq-eqb, not-true}
 use Rattle.numbers.proofs.Lists.{and_both, and_true_true, every_at}
 use Rattle.numbers.proofs.Tests.{by_test, beq_true, beq_itself}
 use Rattle.addresses.specs.Addresses.{same_address}
 use Rattle.addresses.proofs.AddressLaws.{same_equal, same_itself}
-use Rattle.places.specs.Places.{Place, is_free, place_of, source_of, destination_of, same_quad, holds, of_socket}
+use Rattle.numbers.specs.Lists.{count_below}
+use Rattle.numbers.proofs.Counting.{count_map, count_below_lem}
+use Rattle.places.specs.Places.{Place, is_free, place_of, places_of, source_of, destination_of, same_quad, holds, of_socket, held_by, held_of}
 use Rattle.places.specs.declared.Quad.{Quad}
 
 -- the same conversation is one and the same: of one socket and kind, with the same addresses and ports
@@ -77,28 +79,13 @@ not_of k p n = by_test (of_socket k p) (λ h. absurd (n (of_is k p h).1)) (λ h.
 
 -- ---- in the words of the code
 
--- the ports differ, or the addresses decide
-module _ (a b : Quad) where
-  pub ports_differ : (a.ports ≡ b.ports → ⊥) → false ≡ same_quad a b
-  ports_differ n = by_test (same_quad a b) (λ e. absurd (n (ap (λ (q : Quad). q.ports) (same_quad_lem a b e)))) (λ e. sym e)
+-- the count of each socket over all places
+count_all : (k : Bool) (ps : List (List ℕ)) (j : ℕ) → j ≡ length ps → count_below (λ i. of_socket k (place_of (get_or ps i []))) j ≡ held_by k (places_of ps)
+count_all k ps j e =
+    ap (count_below (λ i. of_socket k (place_of (get_or ps i [])))) e
+    ∙ count_below_lem (λ w. of_socket k (place_of w)) [] ps
+    ∙ sym (count_map (of_socket k) place_of ps)
 
-  pub ports_same : (s d : Bool) → a.ports ≡ b.ports → s ≡ same_address (source_of a) (source_of b)
-      → d ≡ same_address (destination_of a) (destination_of b) → ((s && d) && beq a.second b.second) ≡ same_quad a b
-  unfolding same_quad
-  ports_same s d p e f =
-      rw (eq-eqb a.ports b.ports p, e, f)
-      (three (same_address (source_of a) (source_of b)) (same_address (destination_of a) (destination_of b)) (beq a.second b.second))
-    where
-      three : (x y z : Bool) → ((x && y) && z) ≡ (x && (y && (z && true)))
-      three true true true = refl
-      three true true false = refl
-      three true false z = refl
-      three false y z = refl
-
-module _ (q : Quad) (w : List ℕ) where
-  pub free_not : get_or w 0 0 % 4 ≡ 0 → false ≡ holds q (place_of w)
-  free_not z = sym (free_holds q (place_of w) (eq-eqb (get_or w 0 0 % 4) 0 z))
-
-  pub held_same : (r : Quad) (b : Bool) → (get_or w 0 0 % 4 ≡ 0 → ⊥) → r ≡ (place_of w).quad → b ≡ same_quad q r → b ≡ holds q (place_of w)
-  unfolding holds
-  held_same r b z e f = rw (ne_eqb (get_or w 0 0 % 4) 0 z) (f ∙ ap (same_quad q) e)
+pub held_all : (ps : List (List ℕ)) (j a b : ℕ) → j ≡ length ps → a ≡ count_below (λ i. of_socket false (place_of (get_or ps i []))) j
+    → b ≡ count_below (λ i. of_socket true (place_of (get_or ps i []))) j → record { first = a; second = b } ≡ held_of (places_of ps)
+held_all ps j a b e f g = λ i. record { first = (f ∙ count_all false ps j e) i; second = (g ∙ count_all true ps j e) i }

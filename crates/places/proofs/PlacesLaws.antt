@@ -13,8 +13,6 @@ use borrow.Author.Tests.{lt-ltb, le-leb, leb-true, eqb-true, eqb-false, not-true
 use Rattle.numbers.specs.Lists.{every}
 use Rattle.numbers.proofs.Lists.{and_both, and_true_true, every_at, every_of_all, below_at, below_all}
 use Rattle.table.specs.declared.Room.{Room}
-use Rattle.table.specs.declared.Tracking.{Tracking}
-use Rattle.table.specs.declared.Tracking.TheVariants as tracking
 use Rattle.places.specs.Places.{Place, free, is_free, Fits, holds, held_as, of_socket, held_by}
 use Rattle.places.specs.Ageing.{with_age, aged_place, aged_places}
 use Rattle.places.specs.Good.{room_in, places_tests, repeats, alone, once, young, is_plain, is_blank, clean}
@@ -27,6 +25,7 @@ use Rattle.numbers.proofs.Counting.{one, count_map, count_set, count_mono, count
 use Rattle.table.specs.Table.{number_of}
 use Rattle.places.proofs.AgeingLaws.{aged_free, aged_by, at_aged}
 use Rattle.places.proofs.HoldLaws.{holds_is, is_holds, free_holds, free_of}
+use Rattle.std.specs.Prelude.{Option, Some, None}
 
 abbrev pub at : List Place → ℕ → Place
 at ps i = get_or ps i free
@@ -129,9 +128,9 @@ pub aged_of : (limit e : ℕ) (p : Place) (k : Bool) → of_socket k (aged_place
 unfolding of_socket
 aged_of limit e p k = aged_by limit e p (λ x. of_socket k x ≡ true → of_socket k p ≡ true) (λ f h. h) (λ f m h. h) (λ h. absurd (false≢true h))
 
-pub places_aged : (t : Tracking) (e : ℕ) (ps : List Place) → PlacesGood (room_in t) ps → PlacesGood (room_in t) (aged_places t e ps)
-places_aged tracking.Unset e ps g = g
-places_aged (tracking.Set m) e ps g = record {
+pub places_aged : (t : Option Room) (e : ℕ) (ps : List Place) → PlacesGood (room_in t) ps → PlacesGood (room_in t) (aged_places t e ps)
+places_aged None e ps g = g
+places_aged (Some m) e ps g = record {
   spare = λ i h. ap is_free (at_aged l e ps i ∙ aged_free l e (at ps i) (g.spare i h)) ∙ g.spare i h;
   single = λ q i j h k. g.single q i j (before q i h) (before q j k);
   young = λ i. ap (young l) (at_aged l e ps i) ∙ aged_young l e (at ps i);

@@ -1,10 +1,8 @@
 -- When the places of one rule are bad. Document 01, 'The records'.
 -- Assumes nothing.
-use Rattle.std.specs.Prelude.{ℕ, ◌^◌, Bool, true, false, ◌&&◌, ◌||◌, not, List, [], ◌∷◌, length, get_or, drop, ltb, leb, eqb}
+use Rattle.std.specs.Prelude.{ℕ, ◌^◌, Bool, true, false, ◌&&◌, ◌||◌, not, List, [], ◌∷◌, length, get_or, drop, ltb, leb, eqb, Option, Some, None}
 use Rattle.numbers.specs.Lists.{every, every_of, all_below}
 use Rattle.table.specs.declared.Room.{Room}
-use Rattle.table.specs.declared.Tracking.{Tracking}
-use Rattle.table.specs.declared.Tracking.TheVariants as tracking
 use Rattle.places.specs.Places.{Unused, Place, free, is_free, places_of, holds, held_by}
 use Rattle.table.specs.Table.{most_places}
 use Rattle.places.specs.declared.Quad.{Quad}
@@ -14,12 +12,12 @@ use Rattle.addresses.specs.declared.Wide.{Wide}
 abbrev pub no_room : Room
 no_room = record { places = 0; limit = 0; number0 = 0; number1 = 0 }
 
-abbrev pub room_in : Tracking → Room
-room_in tracking.Unset = no_room
-room_in (tracking.Set m) = m
+abbrev pub room_in : Option Room → Room
+room_in None = no_room
+room_in (Some m) = m
 
 -- its places
-abbrev pub places_in : Tracking → ℕ
+abbrev pub places_in : Option Room → ℕ
 places_in t = (room_in t).places
 
 -- "an address and port quadruple repeats within one rule": the place at j repeats that of an earlier one

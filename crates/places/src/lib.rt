@@ -3,7 +3,6 @@
 
 pub mod ageing;
 pub mod place;
-pub mod shape;
 pub mod sockets;
 
 use addresses::Wide;
@@ -47,11 +46,12 @@ pub const AGE_BIT: u64 = 16;
 pub const HALF: u64 = 4294967296;
 
 // A conversation: its socket, the addresses, of one kind, and both ports, source x 65,536 + destination, as this direction shows them.
-#[derive(Clone, Copy)]
+// The ports differ most often: they stand first, so that they are compared first.
+#[derive(Clone, Copy, PartialEq, Eq)]
 pub struct Quad {
+    pub ports: u32,
     pub second: bool,
     pub ipv6: bool,
     pub source: Wide,
     pub destination: Wide,
-    pub ports: u32,
 }

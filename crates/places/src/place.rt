@@ -18,7 +18,7 @@ ghost use Rattle.places.specs.Places.{
 ghost use Rattle.places.specs.Ageing.{with_age};
 
 use crate::*;
-use addresses::{Address, same_address, wide128};
+use addresses::Address;
 use flags::Phase;
 
 // 0 where the place is free, else the number of its phase.
@@ -77,8 +77,8 @@ pub fn ipv4_quad(second: bool, source: u32, destination: u32, ports: u32) -> Qua
     Quad {
         second,
         ipv6: false,
-        source: wide128(source),
-        destination: wide128(destination),
+        source: source.into(),
+        destination: destination.into(),
         ports,
     }
 }
@@ -99,39 +99,38 @@ pub fn ipv6_quad(second: bool, source: Wide, destination: Wide, ports: u32) -> Q
 pub fn source(q: Quad) -> Address
     ensures { result ≡ source_of q }
 {
-    let bits = q.source;
-    Address { ipv6: q.ipv6, bits }
+    Address {
+        ipv6: q.ipv6,
+        bits: q.source,
+    }
 }
 
 pub fn destination(q: Quad) -> Address
     ensures { result ≡ destination_of q }
 {
-    let bits = q.destination;
-    Address { ipv6: q.ipv6, bits }
+    Address {
+        ipv6: q.ipv6,
+        bits: q.destination,
+    }
 }
 
-// The same conversation: the ports differ most often, so they are compared first.
+// The same conversation.
+#[tactic(auto, unfolding(crate::specs::Places::same_quad, addresses::specs::Addresses::same_address))]
 pub fn same_quad(a: Quad, b: Quad) -> bool
     ensures { result ≡ same_quad a b }
 {
-    if a.ports != b.ports {
-        return false;
-    }
-    let between = same_address(source(a), source(b)) & same_address(destination(a), destination(b));
-    between & (a.second == b.second)
+    a == b
 }
 
 // Every number but 1 and 2 is Closing.
 pub fn phase_of(state: u64) -> Phase
     ensures { result ≡ phase_of state }
 {
-    if state == 1 {
-        return Phase::Opening;
+    match state {
+        1 => Phase::Opening,
+        2 => Phase::Running,
+        _ => Phase::Closing,
     }
-    if state == 2 {
-        return Phase::Running;
-    }
-    Phase::Closing
 }
 
 fn phase_word(f: Phase) -> u64
@@ -144,33 +143,23 @@ fn phase_word(f: Phase) -> u64
     }
 }
 
-// The bit that says a kind, or a socket.
-fn bit(b: bool) -> u64
-    ensures { result ≡ cond b 1 0 }
-{
-    if b { 1 } else { 0 }
-}
-
 // The words of a conversation of this age.
 pub fn place_words(q: Quad, f: Phase, age: u32) -> PlaceWords
     ensures { result ≡ place_words (with_age (held_as q f) age) }
 {
-    let side = KIND_BIT * bit(q.ipv6) + SOCKET_BIT * bit(q.second);
-    let held = phase_word(f) + side + AGE_BIT * numbers::wide64(age);
-    let ports = HALF * numbers::wide64(q.ports);
-    let source = q.source;
-    let destination = q.destination;
+    let side = KIND_BIT * u64::from(q.ipv6) + SOCKET_BIT * u64::from(q.second);
     [
-        held,
-        ports,
-        source.high,
-        source.low,
-        destination.high,
-        destination.low,
+        phase_word(f) + side + AGE_BIT * u64::from(age),
+        HALF * u64::from(q.ports),
+        q.source.high,
+        q.source.low,
+        q.destination.high,
+        q.destination.low,
     ]
 }
 
-// Does the place hold a conversation of the socket?
+// Does the place hold a conversation of the socket? No `&&`: without a branch several places are done at a time.
+#[tactic(auto, unfolding(crate::specs::Places::of_socket))]
 pub(crate) fn is_of(second: bool, p: &PlaceWords) -> bool
     ensures { result ≡ of_socket second (place_of p.now) }
 {
@@ -178,11 +167,9 @@ pub(crate) fn is_of(second: bool, p: &PlaceWords) -> bool
     (w % KIND_BIT != 0) & ((w / SOCKET_BIT % 2 == 1) == second)
 }
 
+#[tactic(auto, unfolding(crate::specs::Places::holds))]
 pub fn is_held_by(q: Quad, p: &PlaceWords) -> bool
     ensures { result ≡ holds q (place_of p.now) }
 {
-    if p[HELD] % KIND_BIT == 0 {
-        return false;
-    }
-    same_quad(q, quad(p))
+    p[HELD] % KIND_BIT != 0 && same_quad(q, quad(p))
 }

@@ -1,17 +1,9 @@
 // How many of a rule's places a socket holds.
-ghost use Rattle.std.specs.Prelude.{◌≡◌, cond};
+ghost use Rattle.std.specs.Prelude.{◌≡◌};
 ghost use Rattle.places.specs.Places.{places_of, held_by, held_of};
 
 use crate::place::is_of;
-use crate::shape::*;
 use crate::*;
-use table::PLACES;
-
-fn one(b: bool) -> u8
-    ensures { result ≡ cond b 1 0 }
-{
-    if b { 1 } else { 0 }
-}
 
 // How many places each socket holds.
 #[derive(Clone, Copy)]
@@ -21,17 +13,15 @@ pub struct PerSocket {
 }
 
 // All places are looked at: a loop of fixed length is done several places at a time.
+#[tactic(auto, using(numbers::proofs::Lists::count_none, numbers::proofs::Lists::count_le, numbers::proofs::Lists::count_next, crate::proofs::HoldLaws::held_all))]
 pub fn held(ps: &RulePlaces) -> PerSocket
     ensures { result ≡ held_of (places_of ps.now) }
 {
-    tell_places(*ps);
     let mut first = 0;
     let mut second = 0;
-    let mut j: usize = 0;
-    while j < PLACES {
-        first = first + one(is_of(false, &ps[j]));
-        second = second + one(is_of(true, &ps[j]));
-        j += 1;
+    for p in ps {
+        first += u8::from(is_of(false, p));
+        second += u8::from(is_of(true, p));
     }
     PerSocket { first, second }
 }

@@ -1,15 +1,10 @@
 -- Laws of time in the words of the code's branches.
 -- Assumes nothing.
-use Prim.Native.Nat.{ℕ, ◌*◌, ◌<◌, ◌≤◌}
-use mathlib.Core.Path.{◌≡◌, refl, sym, ap, subst, ◌∙◌}
+use Prim.Native.Nat.{ℕ}
+use mathlib.Core.Path.{◌≡◌, sym, ap, ◌∙◌}
 use mathlib.Core.Bool.{Bool, true, false}
 use mathlib.Core.List.{List}
 use lib.ListN.{length, get_or, set}
-use lib.Seq.{set-get_or, get_or-set_other}
-use borrow.Author.Tests.{eqb-false}
-use Rattle.table.specs.declared.Rate.{Rate}
-use Rattle.table.specs.declared.Bucket.TheVariants as bucket
-use native.Mathlib.Nat.{one-mul, mul-le-mul_right}
 use Rattle.table.specs.declared.Rule.{Rule}
 use Rattle.table.specs.Table.{bucket_of, tracking_of}
 use Rattle.places.specs.Places.{places_of}
@@ -17,24 +12,6 @@ use Rattle.places.specs.Ageing.{aged_places}
 use Rattle.numbers.proofs.Elements.{row_back}
 use Rattle.verdicts.specs.Record.{count_size, level_word, rule_of}
 use Rattle.verdicts.specs.Rule.{with_levels, with_level, drained, drained_row, aged}
-
-pub at_least : (refill elapsed : ℕ) → 0 < refill → elapsed ≤ refill * elapsed
-at_least refill elapsed h = subst (λ (n : ℕ). n ≤ refill * elapsed) (one-mul elapsed) (mul-le-mul_right elapsed h)
-
--- ---- the levels
-
-pub drained_unset : (e : ℕ) (c : List ℕ) → c ≡ drained_row bucket.Unset e c
-drained_unset e c = sym (ap (λ (k : List ℕ). set k 1 (get_or c 1 0)) (set-get_or c 0 0) ∙ set-get_or c 1 0)
-
--- the first is stored when the second is read
-pub drained_set :
-    (b : Rate) (e : ℕ) (c : List ℕ) (x y : ℕ) → x ≡ drained (bucket.Set b) e (get_or c 0 0)
-    → y ≡ drained (bucket.Set b) e (get_or (set c 0 x) 1 0)
-    → set (set c 0 x) 1 y ≡ drained_row (bucket.Set b) e c
-drained_set b e c x y p q =
-    ap (λ (k : ℕ). set (set c 0 k) 1 y) p
-    ∙ ap (set (set c 0 (drained (bucket.Set b) e (get_or c 0 0))) 1)
-    (q ∙ ap (drained (bucket.Set b) e) (get_or-set_other c 0 1 x 0 (eqb-false 1 0 refl)))
 
 -- ---- a rule
 

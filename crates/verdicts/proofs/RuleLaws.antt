@@ -11,9 +11,6 @@ use lib.Dec.{leb, eqb}
 use borrow.Author.Tests.{le-leb, leb-true}
 use Rattle.numbers.proofs.Lists.{cond_both, and_both, and_true_true, every_at}
 use Rattle.table.specs.declared.Rule.{Rule}
-use Rattle.table.specs.declared.Bucket.{Bucket}
-use Rattle.table.specs.declared.Bucket.TheVariants as bucket
-use Rattle.table.specs.declared.Tracking.TheVariants as tracking
 use Rattle.table.specs.Table.{bucket_of, tracking_of, is_allow}
 use Rattle.places.specs.Places.{Place, Fits}
 use Rattle.numbers.specs.Lists.{All}
@@ -26,19 +23,21 @@ use Rattle.conversations.proofs.KeptLaws.{LimitGood, places_tracked, tracked_len
 use Rattle.verdicts.specs.Record.{RuleRecord}
 use Rattle.verdicts.specs.Rule.{allowed, blocked_by_rule, level_of, with_level, drained, aged, raised, over, Decided, decided, counted, passes, reacted}
 use Rattle.verdicts.specs.Good.{has_bucket, level_good, levels_good, record_tests, record_good}
+use Rattle.table.specs.declared.Rate.{Rate}
+use Rattle.std.specs.Prelude.{Option, Some, None}
 
 -- ---- a good record, as facts
 
-pub record LevelGood (b : Bucket) (l : ℕ) : Type 0 where
+pub record LevelGood (b : Option Rate) (l : ℕ) : Type 0 where
   pub most : l ≤ 4294967000
   pub none : (has_bucket b || eqb l 0) ≡ true
 
-level_in : (b : Bucket) (l : ℕ) → level_good b l ≡ true → LevelGood b l
+level_in : (b : Option Rate) (l : ℕ) → level_good b l ≡ true → LevelGood b l
 level_in b l h =
     let t = and_both (leb l 4294967000) (has_bucket b || eqb l 0) h in
     record { most = leb-true l 4294967000 t.0; none = t.1 }
 
-level_out : (b : Bucket) (l : ℕ) → LevelGood b l → level_good b l ≡ true
+level_out : (b : Option Rate) (l : ℕ) → LevelGood b l → level_good b l ≡ true
 level_out b l g = and_true_true (le-leb l 4294967000 g.most) g.none
 
 pub record RecordGood (r : Rule) (x : RuleRecord) : Type 0 where
@@ -65,17 +64,17 @@ good_out r x g =
 
 -- ---- time passes
 
-drained_zero : (b : Bucket) (l : ℕ) → drained b 0 l ≡ l
-drained_zero bucket.Unset l = refl
-drained_zero (bucket.Set b) l = simp (mul-zero, sub-zero)
+drained_zero : (b : Option Rate) (l : ℕ) → drained b 0 l ≡ l
+drained_zero None l = refl
+drained_zero (Some b) l = simp (mul-zero, sub-zero)
 
-drained_add : (b : Bucket) (a e l : ℕ) → drained b e (drained b a l) ≡ drained b (a + e) l
-drained_add bucket.Unset a e l = refl
-drained_add (bucket.Set b) a e l = simp (mul-add, sub-add-eq)
+drained_add : (b : Option Rate) (a e l : ℕ) → drained b e (drained b a l) ≡ drained b (a + e) l
+drained_add None a e l = refl
+drained_add (Some b) a e l = simp (mul-add, sub-add-eq)
 
-drained_good : (b : Bucket) (e l : ℕ) → LevelGood b l → LevelGood b (drained b e l)
-drained_good bucket.Unset e l g = g
-drained_good (bucket.Set b) e l g = record { most = let h = g.most in omega arith; none = refl }
+drained_good : (b : Option Rate) (e l : ℕ) → LevelGood b l → LevelGood b (drained b e l)
+drained_good None e l g = g
+drained_good (Some b) e l g = record { most = let h = g.most in omega arith; none = refl }
 
 -- no time
 pub aged_zero : (r : Rule) (x : RuleRecord) → record_good r x ≡ true → aged 0 r x ≡ x
@@ -116,13 +115,13 @@ aged_count e r x = (refl, refl)
 
 -- ---- the rule decides a frame
 
-raised_good : (b : Bucket) (l : ℕ) → LevelGood b l → LevelGood b (raised b l)
-raised_good bucket.Unset l g = g
-raised_good (bucket.Set b) l g = record { most = omega arith; none = refl }
+raised_good : (b : Option Rate) (l : ℕ) → LevelGood b l → LevelGood b (raised b l)
+raised_good None l g = g
+raised_good (Some b) l g = record { most = omega arith; none = refl }
 
 -- the level of one socket is raised, that of the other stays
 levels_good_lem :
-    (b : Bucket) (x : RuleRecord) (second : Bool) → LevelGood b x.level0 → LevelGood b x.level1
+    (b : Option Rate) (x : RuleRecord) (second : Bool) → LevelGood b x.level0 → LevelGood b x.level1
     → let y = with_level x second (raised b (level_of second x)) in LevelGood b y.level0 × LevelGood b y.level1
 levels_good_lem b x false g h = (raised_good b x.level0 g, h)
 levels_good_lem b x true g h = (g, raised_good b x.level1 h)
@@ -176,7 +175,7 @@ counted_sum v x y c h k = go (passes v) c.passed c.blocked
 
 -- without bucket and tracking the verdict does not look at the record
 pub verdict_plain :
-    (r : Rule) (g : Turn) (x y : RuleRecord) → bucket_of r ≡ bucket.Unset → tracking_of r ≡ tracking.Unset
+    (r : Rule) (g : Turn) (x y : RuleRecord) → bucket_of r ≡ None → tracking_of r ≡ None
     → (reacted r g x).verdict ≡ (reacted r g y).verdict
 unfolding reacted decided
 verdict_plain r g x y b t = plain x ∙ sym (plain y)

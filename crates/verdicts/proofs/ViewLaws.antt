@@ -5,8 +5,6 @@ use Prim.Native.Nat.{ℕ}
 use mathlib.Core.Path.{◌≡◌, refl, sym, ap, subst, ◌∙◌}
 use mathlib.Core.Bool.{Bool, true, false, cond}
 use Rattle.table.specs.declared.Rule.{Rule}
-use Rattle.table.specs.declared.Tracking.{Tracking}
-use Rattle.table.specs.declared.Tracking.TheVariants as tracking
 use Rattle.table.specs.Table.{bucket_of, tracking_of, is_allow}
 use Rattle.places.specs.Ageing.{aged_places}
 use Rattle.places.proofs.ViewLaws.{View, view_aged}
@@ -16,6 +14,8 @@ use Rattle.conversations.proofs.ViewLaws.{Fit, tracked_alike, view_tracked}
 use Rattle.verdicts.specs.Record.{RuleRecord}
 use Rattle.verdicts.specs.Rule.{verdict_of, level_of, with_level, drained, aged, raised, over, over_rate, blocked_by_rule, Decided, as_tracked, decided, reacted}
 use Rattle.verdicts.proofs.RuleLaws.{decided_by}
+use Rattle.table.specs.declared.Room.{Room}
+use Rattle.std.specs.Prelude.{Option, Some, None}
 
 -- the same level, and the same conversations of the socket; counts are left out
 pub record Sees (k : Bool) (x y : RuleRecord) : Type 0 where
@@ -41,9 +41,9 @@ aged_sees k e r x y s = record {
     level true m n = refl
     level false m n = refl
 
-    places : (t : Tracking) → View k (aged_places t e x.places) (aged_places t e y.places)
-    places tracking.Unset = s.places
-    places (tracking.Set m) = view_aged k m.limit e x.places y.places s.places
+    places : (t : Option Room) → View k (aged_places t e x.places) (aged_places t e y.places)
+    places None = s.places
+    places (Some m) = view_aged k m.limit e x.places y.places s.places
 
 -- ---- the socket's own frame
 

@@ -1,3 +1,4 @@
 pub mod Record
 pub mod Rule
 pub mod Good
+pub mod Verdict

@@ -1,10 +1,8 @@
 -- One rule's record: how it ages, and what it does with a frame that its rule decides. Document 01, 'One frame, in this order'.
 -- Assumes nothing.
-use Rattle.std.specs.Prelude.{ℕ, ◌+◌, ◌-◌, ◌*◌, min, Bool, false, cond, not, List, [], ◌∷◌, get_or, set, ltb}
+use Rattle.std.specs.Prelude.{ℕ, ◌+◌, ◌-◌, ◌*◌, min, Bool, false, cond, not, List, [], ◌∷◌, get_or, set, ltb, Option, Some, None}
 use Rattle.table.specs.declared.Action.{Action}
 use Rattle.table.specs.declared.Rule.{Rule}
-use Rattle.table.specs.declared.Bucket.{Bucket}
-use Rattle.table.specs.declared.Bucket.TheVariants as bucket
 use Rattle.table.specs.Table.{bucket_of, tracking_of, is_allow}
 use Rattle.places.specs.Places.{Place, places_of}
 use Rattle.places.specs.Ageing.{aged_places}
@@ -13,6 +11,7 @@ use Rattle.conversations.specs.declared.Turn.{Turn}
 use Rattle.conversations.specs.declared.Progress.{Progress}
 use Rattle.conversations.specs.declared.Progress.TheVariants as progress
 use Rattle.verdicts.specs.Record.{RuleRecord, rule_of, level0_word, level1_word, passed_word, blocked_word}
+use Rattle.table.specs.declared.Rate.{Rate}
 
 -- ---- the verdicts, by the paper's numbers
 
@@ -74,12 +73,12 @@ with_places x ps = record { level0 = x.level0; level1 = x.level1; passed = x.pas
 -- ---- step 2: time passes
 
 -- "All levels fall by refill x elapsed, not below 0"
-abbrev pub drained : Bucket → ℕ → ℕ → ℕ
-drained bucket.Unset e l = l
-drained (bucket.Set b) e l = l - b.refill * e
+abbrev pub drained : Option Rate → ℕ → ℕ → ℕ
+drained None e l = l
+drained (Some b) e l = l - b.refill * e
 
 -- the same of the words of the counts
-abbrev pub drained_row : Bucket → ℕ → List ℕ → List ℕ
+abbrev pub drained_row : Option Rate → ℕ → List ℕ → List ℕ
 drained_row b e c =
     set (set c level0_word (drained b e (get_or c level0_word 0))) level1_word (drained b e (get_or c level1_word 0))
 
@@ -92,14 +91,14 @@ aged e r x =
 -- ---- steps 3 and 4 of the deciding rule
 
 -- "If it has a bucket, the level rises by 1,000, up to 4,294,967,000, whatever follows"
-abbrev pub raised : Bucket → ℕ → ℕ
-raised bucket.Unset l = l
-raised (bucket.Set b) l = min (l + 1000) 4294967000
+abbrev pub raised : Option Rate → ℕ → ℕ
+raised None l = l
+raised (Some b) l = min (l + 1000) 4294967000
 
 -- "a level above 1,000 x size"
-abbrev pub over : Bucket → ℕ → Bool
-over bucket.Unset l = false
-over (bucket.Set b) l = ltb (1000 * b.size) l
+abbrev pub over : Option Rate → ℕ → Bool
+over None l = false
+over (Some b) l = ltb (1000 * b.size) l
 
 -- a verdict and the places after it. "Verdicts other than 0 change no conversation"
 pub record Decided : Type 0 where

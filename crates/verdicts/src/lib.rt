@@ -5,7 +5,6 @@ pub mod ageing;
 pub mod good;
 mod rate;
 pub mod reacting;
-mod shape;
 pub mod verdict;
 
 // The levels of socket 0 and socket 1, passed, blocked.
@@ -22,9 +21,7 @@ pub const PASSED: usize = 2;
 
 pub const BLOCKED: usize = 3;
 
-// A level is in thousandths of a frame. Levels and counts stop here.
+// A level is in thousandths of a frame. Levels stop here, counts at the largest number of 32 bits.
 pub(crate) const FRAME: u32 = 1000;
 
 pub(crate) const LEVEL_MOST: u32 = 4294967000;
-
-pub(crate) const COUNT_MOST: u32 = 4294967295;

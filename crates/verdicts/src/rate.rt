@@ -2,36 +2,27 @@
 ghost use Rattle.std.specs.Prelude.{◌≡◌, ◌<◌, get_or, set};
 ghost use Rattle.verdicts.specs.Record.{level_word, count_size};
 ghost use Rattle.verdicts.specs.Rule.{raised, over, counted, settled_row};
+ghost use Rattle.verdicts.specs.Verdict.{verdict_number};
 
-use crate::shape::*;
 use crate::verdict::Verdict;
 use crate::*;
-use table::Bucket;
+use table::Rate;
 
-fn raise(b: Bucket, level: u32) -> u32
+fn raise(b: Option<Rate>, level: u32) -> u32
     ensures { result ≡ raised b level }
 {
     match b {
-        Bucket::Unset => level,
-        Bucket::Set(_) => {
-            if level < LEVEL_MOST - FRAME {
-                level + FRAME
-            } else {
-                LEVEL_MOST
-            }
-        }
+        None => level,
+        Some(_) => level.saturating_add(FRAME).min(LEVEL_MOST),
     }
 }
 
-pub(crate) fn is_over(b: Bucket, level: u32) -> bool
+pub(crate) fn is_over(b: Option<Rate>, level: u32) -> bool
     ensures { result ≡ over b level }
 {
     match b {
-        Bucket::Unset => false,
-        Bucket::Set(rate) => {
-            let top = FRAME * numbers::wide32(rate.size);
-            top < level
-        }
+        None => false,
+        Some(rate) => FRAME * u32::from(rate.size) < level,
     }
 }
 
@@ -39,12 +30,7 @@ pub(crate) fn is_over(b: Bucket, level: u32) -> bool
 pub(crate) fn count(is: bool, n: u32) -> u32
     ensures { result ≡ counted is n }
 {
-    if is {
-        if n < COUNT_MOST {
-            return n + 1;
-        }
-    }
-    n
+    n.saturating_add(u32::from(is))
 }
 
 // The word of a socket's level.
@@ -56,11 +42,10 @@ fn level_at(second: bool) -> usize
 }
 
 // Step 3: the level of the frame's socket rises, whatever follows.
-pub(crate) fn raise_level(b: Bucket, second: bool, c: &mut CountWords) -> u32
+pub(crate) fn raise_level(b: Option<Rate>, second: bool, c: &mut CountWords) -> u32
     ensures level { result ≡ raised b (get_or c.old (level_word second) 0) }
     ensures words { c.new ≡ set c.old (level_word second) result }
 {
-    tell_counts(*c);
     let k = level_at(second);
     let level = raise(b, c[k]);
     c[k] = level;
@@ -69,10 +54,9 @@ pub(crate) fn raise_level(b: Bucket, second: bool, c: &mut CountWords) -> u32
 
 // The decider's words after its verdict.
 pub(crate) fn settle(v: Verdict, c: &mut CountWords)
-    ensures { c.new ≡ settled_row v.number c.old }
+    ensures { c.new ≡ settled_row (verdict_number v) c.old }
 {
-    let is = v.passes();
-    let p = count(is, c[PASSED]);
-    let b = count(!is, c[BLOCKED]);
-    *c = [c[LEVEL0], c[LEVEL1], p, b];
+    let passes = v.passes();
+    c[PASSED] = count(passes, c[PASSED]);
+    c[BLOCKED] = count(!passes, c[BLOCKED]);
 }

@@ -1,24 +1,21 @@
 // The verdicts of the paper.
 ghost use Rattle.std.specs.Prelude.{◌≡◌};
-ghost use Rattle.verdicts.specs.Rule.{
-  allowed,
-  allowed_by_default,
-  blocked_by_rule,
-  over_rate,
-  no_place_free,
-  blocked_by_default,
-  wrong_flags,
-  no_conversation,
-  not_in_state,
-  passes,
-  verdict_of,
-};
+ghost use Rattle.verdicts.specs.Rule.{passes, verdict_of};
+ghost use Rattle.verdicts.specs.Verdict.{verdict_number};
 
 use conversations::Progress;
 
-#[derive(Clone, Copy)]
-pub struct Verdict {
-    pub number: u8,
+#[derive(Clone, Copy, PartialEq, Eq)]
+pub enum Verdict {
+    Allowed,
+    AllowedByDefault,
+    BlockedByRule,
+    OverRate,
+    NoPlaceFree,
+    BlockedByDefault,
+    WrongFlags,
+    NoConversation,
+    NotInState,
 }
 
 impl Verdict {
@@ -40,95 +37,41 @@ impl Verdict {
 
     pub const NOT_IN_STATE: u8 = 42;
 
-    pub(crate) fn allowed() -> Verdict
-        ensures { result.number ≡ allowed }
+    pub fn number(self) -> u8
+        ensures { result ≡ verdict_number self }
     {
-        Verdict {
-            number: Verdict::ALLOWED,
-        }
-    }
-
-    pub(crate) fn allowed_by_default() -> Verdict
-        ensures { result.number ≡ allowed_by_default }
-    {
-        Verdict {
-            number: Verdict::ALLOWED_BY_DEFAULT,
-        }
-    }
-
-    pub(crate) fn blocked_by_rule() -> Verdict
-        ensures { result.number ≡ blocked_by_rule }
-    {
-        Verdict {
-            number: Verdict::BLOCKED_BY_RULE,
-        }
-    }
-
-    pub(crate) fn over_rate() -> Verdict
-        ensures { result.number ≡ over_rate }
-    {
-        Verdict {
-            number: Verdict::OVER_RATE,
-        }
-    }
-
-    pub(crate) fn no_place_free() -> Verdict
-        ensures { result.number ≡ no_place_free }
-    {
-        Verdict {
-            number: Verdict::NO_PLACE_FREE,
-        }
-    }
-
-    pub(crate) fn blocked_by_default() -> Verdict
-        ensures { result.number ≡ blocked_by_default }
-    {
-        Verdict {
-            number: Verdict::BLOCKED_BY_DEFAULT,
-        }
-    }
-
-    pub(crate) fn wrong_flags() -> Verdict
-        ensures { result.number ≡ wrong_flags }
-    {
-        Verdict {
-            number: Verdict::WRONG_FLAGS,
-        }
-    }
-
-    pub(crate) fn no_conversation() -> Verdict
-        ensures { result.number ≡ no_conversation }
-    {
-        Verdict {
-            number: Verdict::NO_CONVERSATION,
-        }
-    }
-
-    pub(crate) fn not_in_state() -> Verdict
-        ensures { result.number ≡ not_in_state }
-    {
-        Verdict {
-            number: Verdict::NOT_IN_STATE,
-        }
-    }
-
-    // What tracking says.
-    pub(crate) fn of(p: Progress) -> Verdict
-        ensures { result.number ≡ verdict_of p }
-    {
-        match p {
-            Progress::Holds => Verdict::allowed(),
-            Progress::WrongFlags => Verdict::wrong_flags(),
-            Progress::NoConversation => Verdict::no_conversation(),
-            Progress::NotInState => Verdict::not_in_state(),
-            Progress::NoPlaceFree => Verdict::no_place_free(),
+        match self {
+            Verdict::Allowed => Verdict::ALLOWED,
+            Verdict::AllowedByDefault => Verdict::ALLOWED_BY_DEFAULT,
+            Verdict::BlockedByRule => Verdict::BLOCKED_BY_RULE,
+            Verdict::OverRate => Verdict::OVER_RATE,
+            Verdict::NoPlaceFree => Verdict::NO_PLACE_FREE,
+            Verdict::BlockedByDefault => Verdict::BLOCKED_BY_DEFAULT,
+            Verdict::WrongFlags => Verdict::WRONG_FLAGS,
+            Verdict::NoConversation => Verdict::NO_CONVERSATION,
+            Verdict::NotInState => Verdict::NOT_IN_STATE,
         }
     }
 
     // Verdicts 0 and 1.
     pub(crate) fn passes(self) -> bool
-        ensures { result ≡ passes self.number }
+        ensures { result ≡ passes (verdict_number self) }
     {
-        self.number < Verdict::BLOCKED_BY_RULE
+        matches!(self, Verdict::Allowed | Verdict::AllowedByDefault)
+    }
+}
+
+// What tracking says.
+impl From<Progress> for Verdict {
+    ghost from_gives = { λ p v. verdict_number v ≡ verdict_of p };
+
+    fn from(p: Progress) -> Verdict {
+        match p {
+            Progress::Holds => Verdict::Allowed,
+            Progress::WrongFlags => Verdict::WrongFlags,
+            Progress::NoConversation => Verdict::NoConversation,
+            Progress::NotInState => Verdict::NotInState,
+            Progress::NoPlaceFree => Verdict::NoPlaceFree,
+        }
     }
 }

@@ -1,22 +1,19 @@
 use mathlib.Core.Path.{sym, ap, ◌∙◌}
 use lib.ListN.{get_or}
-use lib.Dec.{ltb}
-use borrow.Author.Tests.{ltb-true}
-use Rattle.numbers.proofs.Lists.{and_both}
 use Rattle.layers.specs.Seen.{Seen}
 use Rattle.table.specs.declared.Rule.{Rule}
 use Rattle.table.specs.Table.{marked, state_at, active}
 use Rattle.table.proofs.Rows.{rule_at_lem}
 use Rattle.deciding.specs.Best.{score_of}
-use Rattle.deciding.proofs.Fitting.{fits_start, fits_taken, fits_left, fits_end, fits_none, best_fits, score_small}
+use Rattle.deciding.proofs.Fitting.{fits_start, fits_taken, fits_left, fits_whole, Fits, fits_none, best_fits, score_small}
 use native.Mathlib.Omega.{arith}
-use Rattle.std.proofs.Common.{◌≡◌, cond, suc, ◌<◌, ℕ, List, []}
+use Rattle.std.proofs.Common.{◌≡◌, cond, suc, ◌<◌, ◌+◌, ℕ, List, []}
 use Rattle.numbers.specs.Lists.{leading}
 use Rattle.table.specs.Words.{rule_in, table_in}
 use Rattle.layers.specs.Seen.{seen}
 use Rattle.matching.specs.Matching.{layer_tests}
 use Rattle.deciding.proofs.best_fit.Goals as goal
-use Rattle.deciding.proofs.best_fit.Goals.{then-most-n, else-most-n}
+use Rattle.deciding.proofs.best_fit.Goals.{then-most-n, else-most-n, else-loop-i-test, then-loop-i-test+then-most-ge-WHOLE}
 
 -- the score of the row at i is that of the rule there
 row-scored :
@@ -31,16 +28,13 @@ row-scored t state x marks i n h e k =
 pub loop-i-init : goal.loop-i-init
 loop-i-init c =
     let a = c.args in
-    (omega arith, c.rulecount-count.ensures, fits_start (score_of (table_in a.t.now) a.state (seen a.second a.s.now a.l)))
+    (omega arith, c.rulecount-i-end.ensures, fits_start (score_of (table_in a.t.now) a.state (seen a.second a.s.now a.l)))
 
 pub loop-i-preserved : goal.loop-i-preserved
 loop-i-preserved c =
     let a = c.args in
     let x = seen a.second a.s.now a.l in
     let f = score_of (table_in a.t.now) a.state x in
-    -- the loop goes on at a place that there is
-    let on : c.loop-i.i < c.rulecount-count.result =
-    ltb-true c.loop-i.i c.rulecount-count.result (and_both (ltb c.loop-i.i c.rulecount-count.result) _ c.loop-i-test.true).0 in
     let scored : c.score-n.result ≡ score_of (table_in a.t.now) a.state x c.loop-i.i =
     row-scored a.t.now a.state x c.marks_of-marks.result c.loop-i.i c.score-n.result (omega arith) c.marks_of-marks.ensures c.score-n.ensures in (
       omega arith,
@@ -51,16 +45,55 @@ loop-i-preserved c =
       ],
     )
 
+-- the walk has gone to the end, or to a rule that matches in all four layers
 pub returns-then-most-eq0 : goal.returns-then-most-eq0
+unfolding score_of
 returns-then-most-eq0 c =
-    let q = c in
-    let a = q.args in
-    fits_none (table_in a.t.now) a.state (seen a.second a.s.now a.l) q.loop-i.place q.loop-i.most c.if-most-eq0.true
-    (fits_end _ q.loop-i.i _ _ _ (score_small (table_in a.t.now) a.state (seen a.second a.s.now a.l)) (omega arith) (rw q.loop-i.invariant.1 at c.loop-i-test.false) q.loop-i.invariant.2)
+    let a = c.args in
+    let x = seen a.second a.s.now a.l in
+    fits_none (table_in a.t.now) a.state x c.loop-i-test.place c.loop-i-test.most c.if-most-eq0.true
+    (
+    let n : c.rulecount-i-end.result ≡ (table_in a.t.now).rulecount = c.loop-i.invariant.1 in
+    let f = score_of (table_in a.t.now) a.state x in
+    elim c.loop-i-test.branch [
+      | else-loop-i-test w ↦
+          let k : c.loop-i.i ≡ (table_in a.t.now).rulecount = omega (arith, n, c.loop-i.invariant.0, w.loop-i-test.false) in
+          rw (w.place-is, w.most-is, ← k) c.loop-i.invariant.2
+      | then-loop-i-test+then-most-ge-WHOLE w ↦
+          let scored : w.score-n.result ≡ f c.loop-i.i =
+          row-scored a.t.now a.state x c.marks_of-marks.result c.loop-i.i w.score-n.result (omega arith) c.marks_of-marks.ensures w.score-n.ensures in
+          let q : Fits f (c.loop-i.i + 1) w.if-most-n.place w.if-most-n.most =
+          elim w.if-most-n.branch [
+            | then-most-n v ↦ fits_taken f c.loop-i.i c.loop-i.place c.loop-i.most w.score-n.result w.if-most-n.place w.if-most-n.most c.loop-i.invariant.2 scored v.if-most-n.true v.place-is v.most-is
+            | else-most-n v ↦ fits_left f c.loop-i.i c.loop-i.place c.loop-i.most w.score-n.result w.if-most-n.place w.if-most-n.most c.loop-i.invariant.2 scored v.if-most-n.false v.place-is v.most-is
+          ] in
+          rw (w.place-is, w.most-is)
+          (fits_whole f (c.loop-i.i + 1) (table_in a.t.now).rulecount w.if-most-n.place w.if-most-n.most (score_small (table_in a.t.now) a.state x) (omega (arith, n, w.loop-i-test.true)) w.if-most-ge-WHOLE.true q)
+    ]
+    )
 
 pub returns : goal.returns
+unfolding score_of
 returns c =
-    let q = c in
-    let a = q.args in
-    best_fits (table_in a.t.now) a.state (seen a.second a.s.now a.l) q.loop-i.place q.loop-i.most c.if-most-eq0.false
-    (fits_end _ q.loop-i.i _ _ _ (score_small (table_in a.t.now) a.state (seen a.second a.s.now a.l)) (omega arith) (rw q.loop-i.invariant.1 at c.loop-i-test.false) q.loop-i.invariant.2)
+    let a = c.args in
+    let x = seen a.second a.s.now a.l in
+    best_fits (table_in a.t.now) a.state x c.loop-i-test.place c.loop-i-test.most c.if-most-eq0.false
+    (
+    let n : c.rulecount-i-end.result ≡ (table_in a.t.now).rulecount = c.loop-i.invariant.1 in
+    let f = score_of (table_in a.t.now) a.state x in
+    elim c.loop-i-test.branch [
+      | else-loop-i-test w ↦
+          let k : c.loop-i.i ≡ (table_in a.t.now).rulecount = omega (arith, n, c.loop-i.invariant.0, w.loop-i-test.false) in
+          rw (w.place-is, w.most-is, ← k) c.loop-i.invariant.2
+      | then-loop-i-test+then-most-ge-WHOLE w ↦
+          let scored : w.score-n.result ≡ f c.loop-i.i =
+          row-scored a.t.now a.state x c.marks_of-marks.result c.loop-i.i w.score-n.result (omega arith) c.marks_of-marks.ensures w.score-n.ensures in
+          let q : Fits f (c.loop-i.i + 1) w.if-most-n.place w.if-most-n.most =
+          elim w.if-most-n.branch [
+            | then-most-n v ↦ fits_taken f c.loop-i.i c.loop-i.place c.loop-i.most w.score-n.result w.if-most-n.place w.if-most-n.most c.loop-i.invariant.2 scored v.if-most-n.true v.place-is v.most-is
+            | else-most-n v ↦ fits_left f c.loop-i.i c.loop-i.place c.loop-i.most w.score-n.result w.if-most-n.place w.if-most-n.most c.loop-i.invariant.2 scored v.if-most-n.false v.place-is v.most-is
+          ] in
+          rw (w.place-is, w.most-is)
+          (fits_whole f (c.loop-i.i + 1) (table_in a.t.now).rulecount w.if-most-n.place w.if-most-n.most (score_small (table_in a.t.now) a.state x) (omega (arith, n, w.loop-i-test.true)) w.if-most-ge-WHOLE.true q)
+    ]
+    )

@@ -1,4 +1,4 @@
-use Prim.Native.Nat.{◌≤◌, ◌-◌}
+use Prim.Native.Nat.{◌≤◌}
 use mathlib.Core.Path.{◌≡◌}
 use Rattle.layers.specs.Seen.{seen}
 use Rattle.table.specs.Words.{table_in}
@@ -8,9 +8,6 @@ use Rattle.deciding.proofs.best_fit.Given as goal
 
 abbrev pub invariant-loop-i : goal.invariant-loop-i
 invariant-loop-i l =
-    (l.i ≤ l.count)
-    × (l.count ≡ (table_in l.t).rulecount)
+    (l.i ≤ l.i-end)
+    × (l.i-end ≡ (table_in l.t).rulecount)
     × Fits (score_of (table_in l.t) l.state (seen l.second l.s l.l)) l.i l.place l.most
-
-abbrev pub decreases-loop-i : goal.decreases-loop-i
-decreases-loop-i l = l.count - l.i

@@ -1,4 +1,3 @@
-use Prim.Native.Nat.{◌≤◌, ◌-◌}
 use mathlib.Core.Path.{◌≡◌}
 use mathlib.Core.Bool.{true}
 use Rattle.numbers.specs.Lists.{all_below}
@@ -7,7 +6,4 @@ use Rattle.places.specs.Good.{alone}
 use Rattle.goodness.proofs.are_alone.Given as goal
 
 abbrev pub invariant-loop-j : goal.invariant-loop-j
-invariant-loop-j l = (l.j ≤ 8) × (all_below (alone (places_of l.ps)) l.j ≡ true)
-
-abbrev pub decreases-loop-j : goal.decreases-loop-j
-decreases-loop-j l = 8 - l.j
+invariant-loop-j l = all_below (alone (places_of l.ps)) l.j ≡ true

@@ -1,4 +1,3 @@
-use Prim.Native.Nat.{◌≤◌, ◌-◌}
 use mathlib.Core.Path.{◌≡◌}
 use mathlib.Core.Bool.{true}
 use lib.Dec.{ltb}
@@ -9,7 +8,4 @@ use Rattle.places.proofs.PlacesLaws.{at}
 use Rattle.goodness.proofs.good_each.Given as goal
 
 abbrev pub invariant-loop-j : goal.invariant-loop-j
-invariant-loop-j l = (l.j ≤ 8) × (all_below (λ k. place_good (ltb k l.m.places) l.m.limit (at (places_of l.ps) k)) l.j ≡ true)
-
-abbrev pub decreases-loop-j : goal.decreases-loop-j
-decreases-loop-j l = 8 - l.j
+invariant-loop-j l = all_below (λ k. place_good (ltb k l.m.places) l.m.limit (at (places_of l.ps) k)) l.j ≡ true

@@ -2,6 +2,6 @@
 use Rattle.conversations.proofs.TrackLaws.{open_yes}
 use Rattle.conversations.proofs.track.open_place.Goals as goal
 
-pub returns-then-i-count8 : goal.returns-then-i-count8
-returns-then-i-count8 c = let a = c.args in
-    open_yes a.m a.q a.ps.now _ _ c.count8.ensures.value c.find_seat-i.ensures _ c.if-i-count8.true c.hold.ensures
+pub returns-then-i-from : goal.returns-then-i-from
+returns-then-i-from c = let a = c.args in
+    open_yes a.m a.q a.ps.now _ _ c.from.ensures c.find_seat-i.ensures _ c.if-i-from.true c.hold.ensures

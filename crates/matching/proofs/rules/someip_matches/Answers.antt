@@ -5,9 +5,9 @@ use Rattle.matching.proofs.rules.someip_matches.Goals as goal
 pub returns-then-no_someip : goal.returns-then-no_someip
 returns-then-no_someip c = someip_unset_lem _ _ _ c.no_someip.ensures c.if-no_someip.true
 
-pub returns-in-Absent : goal.returns-in-Absent
-returns-in-Absent c = someip_lacks _ _ _ c.no_someip.ensures c.if-no_someip.false c.in-Absent.is
+pub returns-in-None : goal.returns-in-None
+returns-in-None c = someip_lacks _ _ _ c.no_someip.ensures c.if-no_someip.false c.in-None.is
 
-pub returns-in-Present : goal.returns-in-Present
-returns-in-Present c =
-    someip_tells _ _ _ _ c.no_someip.ensures c.if-no_someip.false c.in-Present.is c.someip.ensures c.messages_agree.ensures
+pub returns-in-Some : goal.returns-in-Some
+returns-in-Some c =
+    someip_tells _ _ _ _ c.no_someip.ensures c.if-no_someip.false c.in-Some.is c.someip.ensures c.messages_agree.ensures
