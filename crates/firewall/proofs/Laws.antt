@@ -1,72 +1,30 @@
 -- The entry points' definitions, case by case.
 -- Assumes nothing.
 use Prim.Native.Nat.{ℕ, ◌<◌, ◌≤◌}
-use mathlib.Core.Path.{◌≡◌, refl, sym, ap, ◌∙◌}
+use mathlib.Core.Path.{◌≡◌, refl, ap, ◌∙◌}
 use mathlib.Core.Bool.{Bool, true, false, cond}
 use mathlib.Core.List.{List}
 use native.Mathlib.Omega.{arith}
 use borrow.Author.Tests.{lt-ltb, le-ltb}
 use lib.ListN.{length, set, length-set}
 use lib.Seq.{get_or-set_same, get_or-set_other}
-use Rattle.layers.specs.declared.Layers.{Layers}
-use Rattle.layers.specs.declared.FrameRefusal.{FrameRefusal}
-use Rattle.layers.specs.declared.Shown.{Shown}
-use Rattle.layers.specs.declared.Shown.TheVariants as shown
-use Rattle.layers.specs.Layers.{shown_of}
 use Rattle.table.specs.declared.Table.{Table}
-use Rattle.faults.specs.declared.AtFault.{AtFault}
 use Rattle.faults.specs.declared.Fault.{Fault}
 use Rattle.faults.specs.declared.Fault.TheVariants as fault
 use Rattle.faults.specs.Faults.{fault_of}
 use Rattle.records.specs.Records.{Lent, lent, records_of, Shaped}
 use Rattle.records.specs.Good.{records_good}
 use Rattle.records.specs.Step.{fresh_of, switched_to}
-use Rattle.events.specs.Events.{event_room}
-use Rattle.steps.specs.declared.Answer.{Answer}
-use Rattle.steps.specs.Steps.{Arrival, seen_of, outcome_of, Stepped, stepped, stepped_as}
-use Rattle.firewall.specs.declared.refusal.Refusal.{Refusal}
+use Rattle.steps.specs.Steps.{Arrival}
+use Rattle.firewall.specs.Firewall.{Refused}
 use Rattle.steps.proofs.Laws.{words_are}
-use Rattle.firewall.specs.Firewall.{
-  Said,
-  refused,
-  done,
-  answered,
-  no_space,
-  bad_table,
-  bad_record,
-  no_such_state,
-  no_such_socket,
-  bad_frame,
-  After,
-  says,
-  leaves,
-  if_table,
-  check_of,
-  start_of,
-  switch_of,
-  after_frame,
-  after_socket,
-  judge_of,
-}
+use Rattle.firewall.specs.Firewall.{Said, refused, done, bad_table, bad_record, no_such_state, says, leaves, if_table, check_of, start_of, switch_of, after_socket, judge_of}
 
 -- ---- check
 
-module _ (t : Table) (w : Lent) where
-  pub check_table : (f : AtFault) → fault_of t ≡ fault.At f → bad_table f ≡ check_of t w
-  unfolding check_of
-  check_table f e = rw e
-
-  pub check_record : fault_of t ≡ fault.Good → records_good t (records_of w) ≡ false → bad_record ≡ check_of t w
-  unfolding check_of
-  check_record e h = rw (e, h)
-
-  pub check_good : fault_of t ≡ fault.Good → records_good t (records_of w) ≡ true → done ≡ check_of t w
-  unfolding check_of
-  check_good e h = rw (e, h)
-
 -- what is refused was refused by the check
 first_refused :
-    {A : Type 0} (say : Said → A) (rest : A) (r : Refusal) (f : Fault) (b : Bool) → refused r ≡ if_table f bad_table (cond b done bad_record)
+    {A : Type 0} (say : Said → A) (rest : A) (r : Refused) (f : Fault) (b : Bool) → refused r ≡ if_table f bad_table (cond b done bad_record)
     → say (refused r) ≡ if_table f (λ x. say (bad_table x)) (cond b rest (say bad_record))
 first_refused say rest r (fault.At x) b e = ap say e
 first_refused say rest r fault.Good false e = ap say e
@@ -84,16 +42,11 @@ checked_good t w e = none_refused (fault_of t) (records_good t (records_of w)) e
 
 -- ---- fresh
 
-module _ (t : Table) (reading : ℕ) (w : Lent) where
-  pub start_refused : (f : AtFault) → fault_of t ≡ fault.At f → leaves (bad_table f) w ≡ start_of t reading w
-  unfolding start_of
-  start_refused f e = rw e
-
-  pub start_fresh :
-      (after : Lent) → fault_of t ≡ fault.Good → Shaped after → records_of after ≡ fresh_of reading
-      → leaves done after ≡ start_of t reading w
-  unfolding start_of
-  start_fresh after e h q = rw (e, words_are after (fresh_of reading) h q)
+pub start_fresh :
+    (t : Table) (reading : ℕ) (w after : Lent) → fault_of t ≡ fault.Good → Shaped after → records_of after ≡ fresh_of reading
+    → leaves done after ≡ start_of t reading w
+unfolding start_of
+start_fresh t reading w after e h q = rw (e, words_are after (fresh_of reading) h q)
 
 -- ---- switch
 
@@ -110,7 +63,7 @@ switched_records state h c p e =
     }
 
 module _ (t : Table) (state : ℕ) (w : Lent) where
-  pub switch_refused : (r : Refusal) → refused r ≡ check_of t w → leaves (refused r) w ≡ switch_of t state w
+  pub switch_refused : (r : Refused) → refused r ≡ check_of t w → leaves (refused r) w ≡ switch_of t state w
   unfolding check_of switch_of
   switch_refused r e = first_refused (λ x. leaves x w) _ r (fault_of t) (records_good t (records_of w)) e
 
@@ -135,35 +88,10 @@ switch_done t state h k c p e m s q =
 -- ---- judge
 
 module _ (t : Table) (w : Lent) (a : Arrival) (space : List ℕ) where
-  pub judge_refused : (r : Refusal) → refused r ≡ check_of t w → says (refused r) w space ≡ judge_of t w a space
+  pub judge_refused : (r : Refused) → refused r ≡ check_of t w → says (refused r) w space ≡ judge_of t w a space
   unfolding check_of judge_of
   judge_refused r e = first_refused (λ x. says x w space) _ r (fault_of t) (records_good t (records_of w)) e
 
   pub judge_socket : done ≡ check_of t w → after_socket t w a space ≡ judge_of t w a space
   unfolding judge_of
   judge_socket e = let g = checked_good t w e in rw (g.0, g.1)
-
-  by_socket : Bool → After
-  by_socket above = cond above (says no_such_socket w space) (after_frame t w a space (shown_of a.bytes))
-
-  pub socket_refused : 1 < a.socket → says no_such_socket w space ≡ after_socket t w a space
-  unfolding by_socket
-  socket_refused h = ap by_socket (sym (lt-ltb 1 a.socket h))
-
-  pub socket_frame : a.socket ≤ 1 → after_frame t w a space (shown_of a.bytes) ≡ after_socket t w a space
-  unfolding by_socket
-  socket_frame h = ap by_socket (sym (le-ltb 1 a.socket h))
-
-  pub frame_refused : (s : Shown) (f : FrameRefusal) → s ≡ shown.Refused f → says (bad_frame f) w space ≡ after_frame t w a space s
-  frame_refused s f e = rw e
-
-  pub frame_tight : (s : Shown) (l : Layers) → s ≡ shown.Shows l → length space < event_room → says no_space w space ≡ after_frame t w a space s
-  frame_tight s l e h = rw (e, lt-ltb (length space) event_room h)
-
-  pub frame_judged :
-      (s : Shown) (l : Layers) (r : Answer) (two : Lent) (left : List ℕ) → s ≡ shown.Shows l → event_room ≤ length space
-      → stepped r two left ≡ stepped_as (outcome_of t (records_of w) a.reading (seen_of a l)) space
-      → says (answered r.verdict.number r.rule r.length) two left ≡ after_frame t w a space s
-  frame_judged s l r two left e h q =
-      rw (e, le-ltb (length space) event_room h)
-      (ap (λ (x : Stepped). says (answered x.verdict x.rule x.length) x.words x.space) q)

@@ -1,9 +1,10 @@
 -- The entry points: what each call says and leaves, for every input. Document 01, 'Verdicts, events, refusals'; change requests 1/12 and 6/12.
 -- Assumes nothing.
-use Rattle.std.specs.Prelude.{ℕ, List, cond, length, ltb}
+use Rattle.std.specs.Prelude.{ℕ, List, cond, length, ltb, ⊤, Result, Ok, Err}
 use Rattle.numbers.specs.Lists.{written}
 use Rattle.layers.specs.Layers.{refusal_number, shown_of}
 use Rattle.layers.specs.declared.FrameRefusal.{FrameRefusal}
+use Rattle.layers.specs.declared.FrameRefusal.TheVariants as frame
 use Rattle.layers.specs.declared.Shown.{Shown}
 use Rattle.layers.specs.declared.Shown.TheVariants as shown
 use Rattle.table.specs.declared.Table.{Table}
@@ -15,48 +16,56 @@ use Rattle.records.specs.Records.{Lent, records_of, words_of}
 use Rattle.records.specs.Good.{records_good}
 use Rattle.records.specs.Step.{fresh_of, switched_to}
 use Rattle.events.specs.Events.{event_room}
+use Rattle.steps.specs.declared.Answer.{Answer}
 use Rattle.steps.specs.Steps.{Arrival, seen_of, Outcome, outcome_of}
 use Rattle.firewall.specs.declared.refusal.Refusal.{Refusal}
-use Rattle.firewall.specs.declared.Checked.{Checked}
-use Rattle.firewall.specs.declared.Checked.TheVariants as checked
-use Rattle.firewall.specs.declared.Started.{Started}
-use Rattle.firewall.specs.declared.Started.TheVariants as started
-use Rattle.firewall.specs.declared.Switched.{Switched}
-use Rattle.firewall.specs.declared.Switched.TheVariants as switched
-use Rattle.firewall.specs.declared.Judged.{Judged}
-use Rattle.firewall.specs.declared.Judged.TheVariants as judged
+use Rattle.firewall.specs.declared.refusal.Refusal.TheVariants as refusal
+
+-- a refusal by its number, and the two that 4 carries
+pub record Refused : Type 0 where
+  pub number : ℕ
+  pub place : ℕ
+  pub setting : ℕ
+
+-- the refusals, each "given exactly when"; all but 4 have a number alone
+abbrev pub plain : ℕ → Refused
+plain n = record { number = n; place = 0; setting = 0 }
+
+-- "4 now carries two numbers"
+abbrev pub at_fault : AtFault → Refused
+at_fault f = record { number = 4; place = f.place; setting = f.setting.number }
+
+-- the paper's number and values of each refusal: "1 a frame too short, 2 too long, 3 an event space under 256 bytes, 4 a bad rule table, 5 a bad record,
+-- 6 a switch to a state not in the table", 6/12: "9 for a socket above 1"
+abbrev pub refused_as : Refusal → Refused
+refused_as refusal.TooShort = plain 1
+refused_as refusal.TooLong = plain 2
+refused_as refusal.NoSpace = plain 3
+refused_as (refusal.BadTable f) = at_fault f
+refused_as refusal.BadRecord = plain 5
+refused_as refusal.NoSuchState = plain 6
+refused_as refusal.NoSuchSocket = plain 9
+
+-- what reading the layers refuses
+abbrev pub frame_refused : FrameRefusal → Refusal
+frame_refused frame.TooShort = refusal.TooShort
+frame_refused frame.TooLong = refusal.TooLong
 
 -- What the paper says of a call: a refusal, by its number and the two that 4 carries; done, where there is no more to say;
 -- or "verdict, the deciding rule's id and event length"
 pub data Said : Type 0 where
-  refused : Refusal → Said
+  refused : Refused → Said
   done : Said
   answered : ℕ → ℕ → ℕ → Said
 
 -- the paper's numbers and values of each case of each answer
-abbrev pub said_checked : Checked → Said
-said_checked (checked.Refused r) = refused r
-said_checked checked.Good = done
+abbrev pub said_done : Result ⊤ Refusal → Said
+said_done (Err r) = refused (refused_as r)
+said_done (Ok u) = done
 
-abbrev pub said_started : Started → Said
-said_started (started.Refused r) = refused r
-said_started started.Fresh = done
-
-abbrev pub said_switched : Switched → Said
-said_switched (switched.Refused r) = refused r
-said_switched switched.Done = done
-
-abbrev pub said_judged : Judged → Said
-said_judged (judged.Refused r) = refused r
-said_judged (judged.Answered a) = answered a.verdict.number a.rule a.length
-
--- the refusals, each "given exactly when"; all but 4 have a number alone
-abbrev pub plain : ℕ → Refusal
-plain n = record { number = n; place = 0; setting = 0 }
-
--- "4 now carries two numbers"
-abbrev pub at_fault : AtFault → Refusal
-at_fault f = record { number = 4; place = f.place; setting = f.setting.number }
+abbrev pub said_judged : Result Answer Refusal → Said
+said_judged (Err r) = refused (refused_as r)
+said_judged (Ok a) = answered a.verdict.number a.rule a.length
 
 abbrev pub bad_frame : FrameRefusal → Said
 bad_frame f = refused (plain (refusal_number f))

@@ -1,18 +1,21 @@
 // The refusals of the paper.
 ghost use Rattle.std.specs.Prelude.{◌≡◌};
-ghost use Rattle.layers.specs.Layers.{refusal_number};
-ghost use Rattle.firewall.specs.Firewall.{plain, at_fault};
+ghost use Rattle.firewall.specs.declared.refusal.Refusal.TheVariants as refusal;
+ghost use Rattle.firewall.specs.Firewall.{refused_as, frame_refused};
 
 use faults::AtFault;
 use layers::FrameRefusal;
 
-// A refusal's number; and for a bad table the place of the first rule at fault and the number of its first setting at fault,
-// 64 and 255 for the states or the rule count. Both are 0 for the other refusals.
+// A bad table tells the first rule at fault and its first setting at fault.
 #[derive(Clone, Copy)]
-pub struct Refusal {
-    pub number: u8,
-    pub place: usize,
-    pub setting: u8,
+pub enum Refusal {
+    TooShort,
+    TooLong,
+    NoSpace,
+    BadTable(AtFault),
+    BadRecord,
+    NoSuchState,
+    NoSuchSocket,
 }
 
 impl Refusal {
@@ -30,84 +33,58 @@ impl Refusal {
 
     pub const NO_SUCH_SOCKET: u8 = 9;
 
-    pub(crate) fn too_short() -> Refusal
-        ensures { result ≡ plain 1 }
+    pub fn number(self) -> u8
+        ensures { result ≡ (refused_as self).number }
     {
-        Refusal {
-            number: Refusal::TOO_SHORT,
-            place: 0,
-            setting: 0,
+        match self {
+            Refusal::TooShort => Refusal::TOO_SHORT,
+            Refusal::TooLong => Refusal::TOO_LONG,
+            Refusal::NoSpace => Refusal::NO_SPACE,
+            Refusal::BadTable(_) => Refusal::BAD_TABLE,
+            Refusal::BadRecord => Refusal::BAD_RECORD,
+            Refusal::NoSuchState => Refusal::NO_SUCH_STATE,
+            Refusal::NoSuchSocket => Refusal::NO_SUCH_SOCKET,
         }
     }
 
-    pub(crate) fn too_long() -> Refusal
-        ensures { result ≡ plain 2 }
+    // The place of the rule at fault, 64 for the states or the rule count; 0 where no table is refused.
+    pub fn place(self) -> usize
+        ensures { result ≡ (refused_as self).place }
     {
-        Refusal {
-            number: Refusal::TOO_LONG,
-            place: 0,
-            setting: 0,
+        match self {
+            Refusal::BadTable(at) => at.place,
+            _ => 0,
         }
     }
 
-    pub(crate) fn no_space() -> Refusal
-        ensures { result ≡ plain 3 }
+    // The number of the setting at fault, 255 for the states or the rule count; 0 where no table is refused.
+    pub fn setting(self) -> u8
+        ensures { result ≡ (refused_as self).setting }
     {
-        Refusal {
-            number: Refusal::NO_SPACE,
-            place: 0,
-            setting: 0,
+        match self {
+            Refusal::BadTable(at) => at.setting.number,
+            _ => 0,
         }
     }
+}
 
-    pub(crate) fn bad_table(f: AtFault) -> Refusal
-        ensures { result ≡ at_fault f }
-    {
-        let setting = f.setting;
-        Refusal {
-            number: Refusal::BAD_TABLE,
-            place: f.place,
-            setting: setting.number,
-        }
-    }
+// What reading the layers refuses is handed on.
+impl From<FrameRefusal> for Refusal {
+    ghost from_gives = { λ f r. r ≡ frame_refused f };
 
-    pub(crate) fn bad_record() -> Refusal
-        ensures { result ≡ plain 5 }
-    {
-        Refusal {
-            number: Refusal::BAD_RECORD,
-            place: 0,
-            setting: 0,
-        }
-    }
-
-    pub(crate) fn no_such_state() -> Refusal
-        ensures { result ≡ plain 6 }
-    {
-        Refusal {
-            number: Refusal::NO_SUCH_STATE,
-            place: 0,
-            setting: 0,
-        }
-    }
-
-    pub(crate) fn no_such_socket() -> Refusal
-        ensures { result ≡ plain 9 }
-    {
-        Refusal {
-            number: Refusal::NO_SUCH_SOCKET,
-            place: 0,
-            setting: 0,
-        }
-    }
-
-    // Hands on what reading the layers refused.
-    pub(crate) fn of_frame(f: FrameRefusal) -> Refusal
-        ensures { result ≡ plain (refusal_number f) }
-    {
+    fn from(f: FrameRefusal) -> Refusal {
         match f {
-            FrameRefusal::TooShort => Refusal::too_short(),
-            FrameRefusal::TooLong => Refusal::too_long(),
+            FrameRefusal::TooShort => Refusal::TooShort,
+            FrameRefusal::TooLong => Refusal::TooLong,
         }
+    }
+}
+
+// What looking for a fault finds is handed on.
+impl From<AtFault> for Refusal {
+    ghost from_gives = { λ at r. r ≡ refusal.BadTable at };
+
+    fn from(at: AtFault) -> Refusal {
+        Refusal::BadTable(at)
     }
 }

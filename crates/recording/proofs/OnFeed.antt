@@ -4,7 +4,7 @@ use Prim.Native.Nat.{ℕ, suc, ◌+◌, ◌-◌, ◌*◌, ◌≤◌, ◌<◌}
 use mathlib.Core.Path.{◌≡◌, refl, sym, ap, subst, ◌∙◌}
 use mathlib.Core.List.{List, [], ◌∷◌, ◌++◌, append_assoc, append-nil}
 use mathlib.Core.Bool.{true, false}
-use native.Mathlib.Nat.{zero-add, add-zero, add_assoc}
+use native.Mathlib.Nat.{add-zero, add_assoc}
 use native.Mathlib.Omega.{arith}
 use lib.ListN.{length, take, drop, length-append, length-drop, take-append-drop}
 use lib.Seq.{take-append_seam, take-append-add, drop-append_seam, drop-append-add, drop-drop, length-take-le}
@@ -15,7 +15,7 @@ use Rattle.faults.specs.declared.Fault.TheVariants as fault
 use Rattle.faults.specs.Faults.{fault_of}
 use Rattle.records.specs.Records.{Lent}
 use Rattle.capture.specs.Capture.{Item, BadHeader, Cut, Refused, Frame, head_size, refusal_number}
-use Rattle.capture.specs.Parts.{move_of, items_in, AtHand, Moves, moves_of}
+use Rattle.capture.specs.Parts.{move_of, items_in, Moves, moves_of}
 use Rattle.capture.specs.declared.RecordRefusal.{RecordRefusal}
 use Rattle.capture.specs.declared.State.{State}
 use Rattle.capture.specs.declared.Found.{Found}
@@ -73,9 +73,6 @@ module _ (t : Table) (r : Run) (f : Found) (s : List ℕ) where
       let same : head_size + len - head_size ≡ len = omega arith in
       tells_one (i len) w out after n (ap (λ (x : Found). items_in x s) e) (k.1 ∙ ap (λ m. (run_by t r (i m)).words) same)
       (subst (λ (x : Line). Wrote (text_of x) out after n) (k.0 ∙ ap (λ m. line_of t r (i m)) same) h)
-
-pub at_hand_as : (f v : Found) (s : List ℕ) → f ≡ v → AtHand f s → AtHand v s
-at_hand_as f v s e l = rw e at l
 
 -- ---- the places
 
@@ -220,22 +217,6 @@ pub record Underway (t : Table) (st : State) (r : Run) (s space : List ℕ) (n :
   pub good : Begun t (run f.place w)
   pub waits : f.more ≡ false
 
--- before the first move
-pub underway_start :
-    (t : Table) (st : State) (r : Run) (s out : List ℕ) (n : ℕ) → line_room * n ≤ length out → Begun t r
-    → Underway t st r s out n (record { state = st; place = r.place; used = 0; count = 0; more = false }) r.words n out
-underway_start t st r s out n h g =
-    let x : AfterFeed = fed_of t n st r s out in
-    record {
-      same = rw (zero-add x.used, zero-add x.count);
-      within = omega arith;
-      room = omega arith;
-      size = refl;
-      places = omega arith;
-      good = g;
-      waits = refl;
-    }
-
 module _ {t : Table} {st : State} {r : Run} {s space : List ℕ} {n : ℕ} {f : Fed} {w : Lent} {left : ℕ} {out : List ℕ}
     (u : Underway t st r s space n f w left out) (some : 0 < left) (g : Fed) (v : Lent) (o : List ℕ) (e : feeds g v o ≡ one_more t f w s out) where
   -- what the move left by itself
@@ -277,9 +258,10 @@ module _ {t : Table} {st : State} {r : Run} {s space : List ℕ} {n : ℕ} {f : 
       ∙ (ap (behind_others f.used a) (fed_goes t (left - 1) f.state (run f.place w) (drop f.used s) (drop f.count out) no_more)
       ∙ (behind_twice f.used moved.used a (take moved.count moved.space) rest ∙ (sym here ∙ ap go (sym e)))))
 
-  pub underway_next : fault_of t ≡ fault.Good → g.more ≡ false → Underway t st r s space n g v (left - 1) o
-  underway_next table m =
-      record {
+  pub underway_next : fault_of t ≡ fault.Good → g.more ≡ false → (rest : ℕ) → rest ≡ left - 1 → Underway t st r s space n g v rest o
+  underway_next table m rest less =
+      rw less
+      (record {
         same = goes_on_lem m;
         within = omega (arith, u.within, next_used, fed_within t 1 f.state (run f.place w) (drop f.used s) (drop f.count out), length-drop f.used s);
         room = rw next_size (omega (arith, u.room, next_count, fed_count t 1 f.state (run f.place w) (drop f.used s) (drop f.count out)));
@@ -287,7 +269,7 @@ module _ {t : Table} {st : State} {r : Run} {s space : List ℕ} {n : ℕ} {f : 
         places = omega (arith, u.places, ap (λ (x : AfterFeed). x.place) e, fed_place t 1 f.state (run f.place w) (drop f.used s) (drop f.count out));
         good = subst (λ (x : AfterFeed). Begun t (run x.place x.words)) (sym e) (fed_begun t 1 f.state (run f.place w) (drop f.used s) (drop f.count out) table u.good);
         waits = m;
-      }
+      })
 
   -- a move that needs more is the last
   pub underway_last : g.more ≡ true → feeds g v o ≡ fed_of t n st r s space

@@ -2,7 +2,6 @@
 ghost use Rattle.std.specs.Prelude.{◌≡◌, ◌+◌, ◌≤◌, ◌<◌, length};
 ghost use Rattle.numbers.specs.Lists.{Wrote};
 ghost use Rattle.table.specs.Words.{table_in};
-ghost use Rattle.records.specs.Records.{lent, before, after};
 ghost use Rattle.capture.specs.Parts.{AtHand, items_in};
 ghost use Rattle.lines.specs.Lines.{line_room};
 ghost use Rattle.recording.specs.Run.{run, text_of_all, end_lines};
@@ -13,7 +12,7 @@ use crate::judging::{begin, judge};
 use capture::moves::{RECORD_HEADER, next_move};
 use capture::{End, Found, State};
 use lines::{Line, ROOM, write};
-use records::{Counts, Head, Places};
+use records::RecordWords;
 use table::words::TableWords;
 
 // The place of the record after what was found.
@@ -22,10 +21,8 @@ fn next_place(place: u64, f: Found) -> u64
     ensures { result ≡ place_after place f }
 {
     match f {
-        Found::Nothing => place,
-        Found::BadHeader => place,
-        Found::Refused { time: _, why: _ } => place + 1,
-        Found::Frame { time: _, len: _ } => place + 1,
+        Found::Nothing | Found::BadHeader => place,
+        Found::Refused { .. } | Found::Frame { .. } => place + 1,
     }
 }
 
@@ -35,22 +32,19 @@ fn tell(
     place: u64,
     f: Found,
     s: &[u8],
-    head: &mut Head,
-    counts: &mut Counts,
-    places: &mut Places,
+    words: &mut RecordWords,
     out: &mut [u8],
 ) -> usize
-    requires ready { Ready (table_in t.now) (lent head.old counts.old places.old) place 1 }
+    requires ready { Ready (table_in t.now) words.old place 1 }
     requires hand { AtHand f s.now }
     requires room { line_room ≤ length out.old }
-    ensures { Tells (table_in t.now) (run place (before head counts places)) (items_in f s.now)
-        (after head counts places) out.old out.new result }
+    ensures { Tells (table_in t.now) (run place words.old) (items_in f s.now) words.new out.old out.new result }
 {
     match f {
         Found::Nothing => 0,
         Found::BadHeader => write(Line::BadHeader, out),
         Found::Refused { time, why } => {
-            begin(t, place, time, head, counts, places);
+            begin(t, place, time, words);
             let number = why.number();
             write(
                 Line::Refused {
@@ -62,9 +56,8 @@ fn tell(
             )
         }
         Found::Frame { time, len } => {
-            let end = RECORD_HEADER + len;
-            let l = judge(t, place, time, &s[RECORD_HEADER..end], head, counts, places);
-            write(l, out)
+            let frame = &s[RECORD_HEADER..RECORD_HEADER + len];
+            write(judge(t, place, time, frame, words), out)
         }
     }
 }
@@ -75,23 +68,19 @@ fn feed_one(
     st: State,
     place: u64,
     s: &[u8],
-    head: &mut Head,
-    counts: &mut Counts,
-    places: &mut Places,
+    words: &mut RecordWords,
     out: &mut [u8],
 ) -> Fed
-    requires ready { Ready (table_in t.now) (lent head.old counts.old places.old) place 1 }
+    requires ready { Ready (table_in t.now) words.old place 1 }
     requires room { line_room ≤ length out.old }
-    ensures { feeds result (after head counts places) out.new
-        ≡ fed_of (table_in t.now) 1 st (run place (before head counts places)) s.now out.old }
+    ensures { feeds result words.new out.new
+        ≡ fed_of (table_in t.now) 1 st (run place words.old) s.now out.old }
 {
     let m = next_move(st, s);
-    let f = m.found;
-    let state = m.state;
-    let count = tell(t, place, f, s, head, counts, places, out);
+    let count = tell(t, place, m.found, s, words, out);
     Fed {
-        state,
-        place: next_place(place, f),
+        state: m.state,
+        place: next_place(place, m.found),
         used: m.used,
         count,
         more: m.more,
@@ -99,42 +88,24 @@ fn feed_one(
 }
 
 // One more move, behind those of a call that left `f`.
-fn feed_next(
-    t: &TableWords,
-    f: Fed,
-    s: &[u8],
-    head: &mut Head,
-    counts: &mut Counts,
-    places: &mut Places,
-    out: &mut [u8],
-) -> Fed
-    requires ready { Ready (table_in t.now) (lent head.old counts.old places.old) f.place 1 }
+fn feed_next(t: &TableWords, f: Fed, s: &[u8], words: &mut RecordWords, out: &mut [u8]) -> Fed
+    requires ready { Ready (table_in t.now) words.old f.place 1 }
     requires room { (f.used ≤ length s.now) × (f.count + line_room ≤ length out.old) }
-    ensures { feeds result (after head counts places) out.new
-        ≡ one_more (table_in t.now) f (before head counts places) s.now out.old }
+    ensures { feeds result words.new out.new
+        ≡ one_more (table_in t.now) f words.old s.now out.old }
 {
-    let at = f.used;
-    let n = f.count;
-    let state = f.state;
     let m = feed_one(
         t,
-        state,
+        f.state,
         f.place,
-        &s[at..],
-        head,
-        counts,
-        places,
-        &mut out[n..],
+        &s[f.used..],
+        words,
+        &mut out[f.count..],
     );
-    let next = m.state;
-    let used = at + m.used;
-    let count = n + m.count;
     Fed {
-        state: next,
-        place: m.place,
-        used,
-        count,
-        more: m.more,
+        used: f.used + m.used,
+        count: f.count + m.count,
+        ..m
     }
 }
 
@@ -148,14 +119,12 @@ pub fn feed(
     st: State,
     place: u64,
     s: &[u8],
-    head: &mut Head,
-    counts: &mut Counts,
-    places: &mut Places,
+    words: &mut RecordWords,
     out: &mut [u8],
 ) -> Fed
-    requires { Ready (table_in t.now) (lent head.old counts.old places.old) place (room_for out.old) }
-    ensures { feeds result (after head counts places) out.new
-        ≡ fed_of (table_in t.now) (room_for out.old) st (run place (before head counts places)) s.now out.old }
+    requires { Ready (table_in t.now) words.old place (room_for out.old) }
+    ensures { feeds result words.new out.new
+        ≡ fed_of (table_in t.now) (room_for out.old) st (run place words.old) s.now out.old }
 {
     let mut f = Fed {
         state: st,
@@ -164,18 +133,17 @@ pub fn feed(
         count: 0,
         more: false,
     };
-    let mut left = out.len() / ROOM;
-    while 0 < left {
-        f = feed_next(t, f, s, head, counts, places, out);
+    for _move in 0..out.len() / ROOM {
+        f = feed_next(t, f, s, words, out);
         if f.more {
             return f;
         }
-        left -= 1;
     }
     f
 }
 
 /// The line that the end of the capture adds, written to the start of `out`; how many bytes it has, 0 where there is none.
+#[tactic(auto, unfolding(crate::specs::Run::text_of_all))]
 pub fn finish(e: End, out: &mut [u8]) -> usize
     requires { line_room ≤ length out.old }
     ensures { Wrote (text_of_all (end_lines e)) out.old out.new result }

@@ -3,7 +3,6 @@ ghost use Rattle.std.specs.Prelude.{◌≡◌};
 ghost use Rattle.faults.specs.declared.Fault.TheVariants as fault;
 ghost use Rattle.faults.specs.Faults.{fault_of};
 ghost use Rattle.table.specs.Words.{table_in};
-ghost use Rattle.records.specs.Records.{lent, before, after};
 ghost use Rattle.capture.specs.Capture.{Frame};
 ghost use Rattle.recording.specs.Run.{run, begun, Begun, event_number, line_of, run_by};
 
@@ -11,27 +10,21 @@ use events::ROOM;
 use layers::Shown;
 use lines::Line;
 use numbers::read16;
-use records::{Counts, Head, Places};
+use records::RecordWords;
 use steps::step;
 use table::words::TableWords;
 
 // Fresh records at the first record's time; this call checks the table, which nothing else in a run does.
-pub(crate) fn begin(
-    t: &TableWords,
-    place: u64,
-    time: u64,
-    head: &mut Head,
-    counts: &mut Counts,
-    places: &mut Places,
-)
-    ensures { after head counts places ≡ begun (table_in t.now) (run place (before head counts places)) time }
+pub(crate) fn begin(t: &TableWords, place: u64, time: u64, words: &mut RecordWords)
+    ensures { words.new ≡ begun (table_in t.now) (run place words.old) time }
 {
     if place == 0 {
-        firewall::fresh(t, time, head, counts, places);
+        let _ = firewall::fresh(t, time, words);
     }
 }
 
 // The number at the start of an event, 0 where there is none.
+#[tactic(auto, unfolding(crate::specs::Run::event_number))]
 fn event_number(length: usize, space: &[u8; ROOM]) -> u16
     ensures { result ≡ event_number length space.now }
 {
@@ -47,17 +40,14 @@ pub(crate) fn judge(
     place: u64,
     time: u64,
     frame: &[u8],
-    head: &mut Head,
-    counts: &mut Counts,
-    places: &mut Places,
+    words: &mut RecordWords,
 ) -> Line
     requires table { fault_of (table_in t.now) ≡ fault.Good }
-    requires records { Begun (table_in t.now) (run place (lent head.old counts.old places.old)) }
-    ensures line { result ≡ line_of (table_in t.now) (run place (before head counts places)) (Frame time frame.now) }
-    ensures words { after head counts places
-        ≡ (run_by (table_in t.now) (run place (before head counts places)) (Frame time frame.now)).words }
+    requires records { Begun (table_in t.now) (run place words.old) }
+    ensures line { result ≡ line_of (table_in t.now) (run place words.old) (Frame time frame.now) }
+    ensures words { words.new ≡ (run_by (table_in t.now) (run place words.old) (Frame time frame.now)).words }
 {
-    begin(t, place, time, head, counts, places);
+    begin(t, place, time, words);
     // Not let .. else: it binds one case, here both hold something, and every way owes a line.
     let l = match layers::read(frame) {
         Shown::Refused(f) => {
@@ -70,12 +60,11 @@ pub(crate) fn judge(
         Shown::Shows(l) => l,
     };
     let mut space = [0u8; ROOM];
-    let a = step(t, false, frame, l, time, head, counts, places, &mut space);
-    let v = a.verdict;
+    let a = step(t, false, frame, l, time, words, &mut space);
     Line::Judged {
         place,
         time,
-        verdict: v.number,
+        verdict: a.verdict.number,
         rule: a.rule,
         event: event_number(a.length, &space),
     }

@@ -90,21 +90,21 @@ module _ (t : Table) (cs : List (List ℕ)) (ps : List (List (List ℕ))) (n : �
 pub rules_64 : (t : List (List ℕ)) → length t ≡ 73 → length (table_in t).rules ≡ 64
 rules_64 t e = length-map (take 64 t) rule_in ∙ length-take 64 t ∙ ap (min 64) e
 
--- the active state, the rules, and the default
-pub all_is : (t : Table) (h : List ℕ) (cs : List (List ℕ)) (ps : List (List (List ℕ))) (a b c : Bool) → length t.rules ≡ 64 → length cs ≡ 65 → length ps ≡ 64
-    → a ≡ ltb (get_or h 1 0) t.statecount → b ≡ all_below (good_at t cs ps) 64
-    → c ≡ levels_good bucket.Unset (rule_of (get_or cs 64 []) [])
-    → ((a && b) && c) ≡ records_good t (records_of (lent h cs ps))
+-- the active state and the rules, and then the default
+pub all_is : (t : Table) (h : List ℕ) (cs : List (List ℕ)) (ps : List (List (List ℕ))) (a b : Bool) → length t.rules ≡ 64 → length cs ≡ 65 → length ps ≡ 64
+    → a ≡ (ltb (get_or h 1 0) t.statecount && all_below (good_at t cs ps) 64)
+    → b ≡ levels_good bucket.Unset (rule_of (get_or cs 64 []) [])
+    → (a && b) ≡ records_good t (records_of (lent h cs ps))
 unfolding records_good records_of all_below
-all_is t h cs ps a b c l m n e f g =
-    and_assoc a b c
-    ∙ rw (e, f)
-    (ap (λ (x : Bool). ltb (get_or h 1 0) t.statecount && (all_below (good_at t cs ps) 64 && x)) last)
+all_is t h cs ps a b l m n e g =
+    rw e
+    (and_assoc (ltb (get_or h 1 0) t.statecount) (all_below (good_at t cs ps) 64) b
+    ∙ ap (λ (x : Bool). ltb (get_or h 1 0) t.statecount && (all_below (good_at t cs ps) 64 && x)) last)
   where
-    last : c ≡ good_at t cs ps 64
+    last : b ≡ good_at t cs ps 64
     last =
-        and-true c
-        ∙ none_is (rule_of (get_or cs 64 []) []) c true g refl
+        and-true b
+        ∙ none_is (rule_of (get_or cs 64 []) []) b true g refl
         ∙ ap (λ (p : List (List ℕ)). record_good no_rule (rule_of (get_or cs 64 []) p)) (sym (get_or-eq_default ps [] (omega arith)))
         ∙ ap (record_good no_rule) (sym (rules_at cs ps 64 (omega arith)))
         ∙ ap (λ (r : Rule). record_good r (get_or (rule_records cs ps) 64 no_record)) (sym (get_or-eq_default (table.rules_of t) no_rule (omega (arith, length-take t.rulecount t.rules))))

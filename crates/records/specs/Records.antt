@@ -1,11 +1,10 @@
 -- The records, and the words that hold them. Document 01, 'The records'.
 -- Assumes nothing.
 use Rattle.std.specs.Prelude.{ℕ, ◌<◌, ◌+◌, ◌≡◌, List, [], ◌∷◌, map, length, get_or, take}
-use Rattle.std.specs.Borrow.{MutBor}
-use denote.Triple.Both.{Both}
 use Rattle.table.specs.Table.{most_rules, most_places}
 use Rattle.places.specs.Places.{Fits, ShapedPlaces}
 use Rattle.numbers.specs.Lists.{Sized}
+use Rattle.records.specs.declared.Words.{Words}
 use Rattle.verdicts.specs.Record.{count_size, RuleRecord, no_record, rule_of, count_row, place_rows}
 
 -- how many rows of counts there are: the last is the default's
@@ -40,26 +39,13 @@ last_word = 0
 abbrev pub active_word : ℕ
 active_word = 1
 
--- the words of the records, as they are lent to a call
-pub record Lent : Type 0 where
-  pub head : List ℕ
-  pub counts : List (List ℕ)
-  pub places : List (List (List ℕ))
+-- the words of the records, as they are lent to a call: their head, the rows of counts, the rows of places
+abbrev pub Lent : Type 0
+Lent = Words (List (List ℕ)) (List (List (List ℕ)))
 
 -- made of its three parts
 abbrev pub lent : List ℕ → List (List ℕ) → List (List (List ℕ)) → Lent
 lent head counts places = record { head = head; counts = counts; places = places }
-
--- words behind a reference that may be written, at a call's entry and at its exit
-abbrev pub AtCall : Type 0 → Type 0
-AtCall X = Both (MutBor X) (MutBor X)
-
--- the words that are lent to a call, as it finds them and as it leaves them
-abbrev pub before : AtCall (List ℕ) → AtCall (List (List ℕ)) → AtCall (List (List (List ℕ))) → Lent
-before head counts places = lent head.entry.now counts.entry.now places.entry.now
-
-abbrev pub after : AtCall (List ℕ) → AtCall (List (List ℕ)) → AtCall (List (List (List ℕ))) → Lent
-after head counts places = lent head.exit.now counts.exit.now places.exit.now
 
 -- a row of counts and a row of places for each rule; the default's row of counts has no partner
 abbrev pub rule_records : List (List ℕ) → List (List (List ℕ)) → List RuleRecord

@@ -18,6 +18,17 @@ pub type Counts = [CountWords; COUNT_ROWS];
 // Per rule its places for conversations; the default has none.
 pub type Places = AllPlaces;
 
+// The words of the records: what is kept from frame to frame, lent to each call.
+// Of any kinds of rows: of a struct whose fields are named as arrays of arrays a literal gets no proof.
+#[derive(Clone, Copy)]
+pub struct Words<C, P> {
+    pub head: Head,
+    pub counts: C,
+    pub places: P,
+}
+
+pub type RecordWords = Words<Counts, Places>;
+
 // How many words of the head, and rows of counts.
 pub const HEAD_WORDS: usize = 2;
 

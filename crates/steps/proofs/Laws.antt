@@ -5,7 +5,7 @@ use mathlib.Core.Path.{◌≡◌, refl, sym, ap, ◌∙◌}
 use mathlib.Core.Bool.{Bool, true, false, ◌||◌, true≢false}
 use mathlib.Core.List.{List, []}
 use native.Mathlib.Omega.{arith}
-use borrow.Author.Tests.{lt-ltb, le-ltb, ltb-true, ltb-false, eq-eqb, ne_eqb, eqb-false}
+use borrow.Author.Tests.{lt-ltb, le-ltb, ltb-true, ltb-false, eq-eqb, eqb-false}
 use lib.ListN.{length, get_or}
 use lib.Dec.{ltb, eqb}
 use Rattle.numbers.specs.Lists.{first, written, Wrote}
@@ -36,7 +36,6 @@ use Rattle.conversations.specs.declared.Turn.{Turn}
 use Rattle.places.specs.declared.Quad.{Quad}
 use Rattle.records.specs.Records.{Lent, Records, records_of, words_of, Shaped, ShapedRecords}
 use Rattle.flags.specs.Flags.{kind_of}
-use Rattle.verdicts.specs.Rule.{over_rate, no_place_free, blocked_by_default}
 use Rattle.records.specs.Step.{ticked, reaction, acted}
 use Rattle.places.specs.Good.{places_in, fits_kind}
 use Rattle.places.proofs.PlaceLaws.{quad_ipv4, quad_ipv6}
@@ -49,10 +48,9 @@ use Rattle.events.specs.declared.Event.TheVariants as event
 use Rattle.steps.specs.declared.Answer.{Answer}
 use Rattle.steps.specs.declared.Report.{Report}
 use Rattle.steps.specs.declared.Report.TheVariants as report
-use Rattle.steps.specs.Steps.{quad_of, turn_in, turn_of, id_at, wrong_step, event_for, best_event, event_of, outcome_of, stepped, stepped_as}
+use Rattle.steps.specs.Steps.{quad_of, turn_in, turn_of, id_at, event_for, best_event, event_of, outcome_of, stepped, stepped_as}
 use Rattle.table.specs.declared.Room.{Room}
-use Rattle.std.specs.Prelude.{Option}
-use Rattle.std.specs.Prelude.{Some, None}
+use Rattle.std.specs.Prelude.{Option, Some, None}
 
 -- ---- who decides
 
@@ -73,12 +71,6 @@ few_places t state x d e q h =
     tracks (rule_at t d) (fresh_id t d) (good_rule t e d m) (tracking_of (rule_at t d)) refl
 
 -- ---- what tracking looks at
-
-pub turn_tcp :
-    (s : Bool) (x : Ip) (y : Transport) (g : Segment) (k : Flags) (a b : ℕ) → y ≡ transport.Tcp g → a ≡ g.source → b ≡ g.destination
-    → k ≡ kind_of g.fin g.syn g.rst g.ack → (q : Quad) → q ≡ quad_of s x (a * 65536 + b)
-    → ◌≡◌ {A = Turn} (record { quad = q; flags = k }) (turn_in s x y)
-turn_tcp s x y g k a b f h m n q w = rw (w, f, h, m, n)
 
 -- whatever is tracked, its addresses are of their kind
 quad_plain : (s : Bool) (x : Ip) (ports : ℕ) → fits_kind (quad_of s x ports) ≡ true
@@ -162,46 +154,8 @@ module _ (t : Table) (state : ℕ) (x : Seen) where
       let k : (best_of t state x).layer ≡ 0 = none_fits t state x h (rw q at m) in
       rw (k, le-ltb (best_of t state x).place 64 (rw q at m))
 
-  -- what is reported of a verdict is written: nothing, the decider's event, the best fit's
-  module _ (d v : ℕ) (p : Report) (says : p ≡ event_for v) where
-    pub event_none : p ≡ report.Nothing → [] ≡ event_of t state x d v
-    event_none e = rw (← says, e)
-
-    pub event_own : (e : Event) (id : ℕ) → p ≡ report.Own e → id ≡ id_at t d → event_bytes e id x ≡ event_of t state x d v
-    event_own e id q h = rw (← says, q, h)
-
-    pub event_best : p ≡ report.BestFit → best_event t state x ≡ event_of t state x d v
-    event_best e = rw (← says, e)
-
 pub wrote : (x y space after : List ℕ) (n : ℕ) → x ≡ y → Wrote x space after n → Wrote y space after n
 wrote x y space after n e h = rw (← e) h
-
-pub wrote_none : (y space : List ℕ) → [] ≡ y → Wrote y space space 0
-wrote_none y space e = rw (← e) (record { count = refl; left = refl })
-
--- ---- what a verdict reports
-
-module _ (v : ℕ) where
-  pub for_rate : v ≡ over_rate → report.Own event.Ratelimit ≡ event_for v
-  unfolding event_for
-  for_rate h = rw h
-
-  pub for_full : v ≡ no_place_free → report.Own event.MaxConnections ≡ event_for v
-  unfolding event_for
-  for_full h = rw h
-
-  pub for_best : v ≡ blocked_by_default → report.BestFit ≡ event_for v
-  unfolding event_for
-  for_best h = rw h
-
-  module _ {b : Bool} (wrong : b ≡ wrong_step v) (rate : v ≡ over_rate → ⊥) where
-    pub for_step : b ≡ true → report.Own event.StateTransition ≡ event_for v
-    unfolding event_for
-    for_step h = simp (ne_eqb v over_rate rate, sym wrong ∙ h)
-
-    pub for_none : b ≡ false → (v ≡ no_place_free → ⊥) → (v ≡ blocked_by_default → ⊥) → report.Nothing ≡ event_for v
-    unfolding event_for
-    for_none h c e = simp (ne_eqb v over_rate rate, sym wrong ∙ h, ne_eqb v no_place_free c, ne_eqb v blocked_by_default e)
 
 -- ---- frames that are shown
 

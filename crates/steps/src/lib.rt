@@ -9,7 +9,7 @@ ghost use Rattle.layers.specs.Seen.{seen};
 ghost use Rattle.table.specs.Table.{most_rules};
 ghost use Rattle.table.specs.Words.{table_in};
 ghost use Rattle.deciding.specs.Best.{best_of};
-ghost use Rattle.records.specs.Records.{records_of, lent, before, after};
+ghost use Rattle.records.specs.Records.{records_of};
 ghost use Rattle.events.specs.Events.{event_room};
 ghost use Rattle.steps.specs.Steps.{no_turn, quad_of, turn_in, id_at, wrong_step, event_for, best_event, event_of, outcome_of, Ready, stepped, stepped_as};
 
@@ -18,16 +18,13 @@ use deciding::{Best, decide};
 use events::{Event, mismatch, write};
 use flags::{Flags, flag_kind};
 use layers::Layers;
-use numbers::wide32;
 use packets::Ip;
 use payloads::Transport;
 use places::Quad;
 use places::place::{ipv4_quad, ipv6_quad, no_quad};
-use records::act::act;
 use records::shape::shape;
-use records::time::tick;
-use records::{ACTIVE, Counts, DEFAULT, Head, Places};
-use table::words::{TableWords, id, tell_table};
+use records::{ACTIVE, DEFAULT, RecordWords};
+use table::words::{TableWords, id};
 use verdicts::verdict::Verdict;
 
 // "The answer is verdict, the deciding rule's id (65,535 for the default) and event length".
@@ -76,19 +73,22 @@ pub(crate) fn turn(second: bool, ip: Ip, t: Transport) -> Turn
     ensures { result ≡ turn_in second ip t }
 {
     match t {
-        Transport::Absent => no_turn(second),
-        Transport::Udp(_) => no_turn(second),
+        Transport::Absent | Transport::Udp(_) => no_turn(second),
         Transport::Tcp(s) => Turn {
-            quad: quad_of(second, ip, wide32(s.source) * 65536 + wide32(s.destination)),
+            quad: quad_of(
+                second,
+                ip,
+                u32::from(s.source) * 65536 + u32::from(s.destination),
+            ),
             flags: flag_kind(s.fin, s.syn, s.rst, s.ack),
         },
     }
 }
 
+#[tactic(auto, using(table::proofs::Rows::rule_at_lem))]
 fn id_at(t: &TableWords, d: usize) -> u16
     ensures { result ≡ id_at (table_in t.now) d }
 {
-    tell_table(*t);
     if d < DEFAULT {
         id(&t[d])
     } else {
@@ -105,6 +105,7 @@ fn wrong_step(v: Verdict) -> bool
 }
 
 // Verdicts 0, 1 and 2 have no event.
+#[tactic(auto, unfolding(crate::specs::Steps::event_for))]
 fn event_for(v: Verdict) -> Report
     ensures { result ≡ event_for v.number }
 {
@@ -124,6 +125,7 @@ fn event_for(v: Verdict) -> Report
 }
 
 // The mismatch event of the best fit. With no active rule: link and 65,535. The socket is for the promise alone, here and below: no event shows it.
+#[tactic(auto, using(table::proofs::Rows::rule_at_lem, crate::proofs::Laws::best_rule, crate::proofs::Laws::wrote))]
 fn write_best(
     t: &TableWords,
     state: usize,
@@ -140,16 +142,9 @@ fn write_best(
     requires room { event_room ≤ length space.old }
     ensures { Wrote (best_event (table_in t.now) state (seen second frame.now l)) space.old space.new result }
 {
-    tell_table(*t);
-    let place = best.place;
-    if place < DEFAULT {
-        return write(
-            mismatch(&t[place], best.layer),
-            id(&t[place]),
-            frame,
-            l,
-            space,
-        );
+    if best.place < DEFAULT {
+        let rule = &t[best.place];
+        return write(mismatch(rule, best.layer), id(rule), frame, l, space);
     }
     write(Event::LinkMismatch, Answer::NO_RULE, frame, l, space)
 }
@@ -173,8 +168,7 @@ fn write_event(
     requires room { event_room ≤ length space.old }
     ensures { Wrote (event_of (table_in t.now) state (seen second frame.now l) d v.number) space.old space.new result }
 {
-    let report = event_for(v);
-    match report {
+    match event_for(v) {
         Report::Nothing => 0,
         Report::Own(e) => write(e, id_at(t, d), frame, l, space),
         Report::BestFit => write_best(t, state, best, second, frame, l, space),
@@ -188,31 +182,25 @@ pub fn step(
     frame: &[u8],
     l: Layers,
     reading: u64,
-    head: &mut Head,
-    counts: &mut Counts,
-    places: &mut Places,
+    words: &mut RecordWords,
     space: &mut [u8],
 ) -> Answer
-    requires { Ready (table_in t.now) (lent head.old counts.old places.old) (seen second frame.now l) space.old }
-    ensures outcome { stepped result (after head counts places) space.new
-        ≡ stepped_as (outcome_of (table_in t.now) (records_of (before head counts places)) reading (seen second frame.now l))
-        space.old }
-    ensures records { records_of (after head counts places)
-        ≡ (outcome_of (table_in t.now) (records_of (before head counts places)) reading (seen second frame.now l)).records }
+    requires { Ready (table_in t.now) words.old (seen second frame.now l) space.old }
+    ensures outcome { stepped result words.new space.new
+        ≡ stepped_as (outcome_of (table_in t.now) (records_of words.old) reading (seen second frame.now l)) space.old }
+    ensures records { records_of words.new
+        ≡ (outcome_of (table_in t.now) (records_of words.old) reading (seen second frame.now l)).records }
 {
-    let state = head[ACTIVE] as usize;
-    let ip = l.ip;
-    let transport = l.transport;
-    let g = turn(second, ip, transport);
+    let state = words.head[ACTIVE] as usize;
+    let g = turn(second, l.ip, l.transport);
     let decision = decide(t, state, second, frame, l);
-    let best = decision.best;
     let d = decision.decider;
-    tick(t, reading, head, counts, places);
-    let v = act(t, g, d, head, counts, places);
-    shape(*head, *counts, *places);
-    let length = write_event(t, state, best, second, frame, l, d, v, space);
+    words.tick(t, reading);
+    let verdict = words.act(t, g, d);
+    shape(*words);
+    let length = write_event(t, state, decision.best, second, frame, l, d, verdict, space);
     Answer {
-        verdict: v,
+        verdict,
         rule: id_at(t, d),
         length,
     }

@@ -31,6 +31,7 @@ use Rattle.events.specs.Events.{event_room}
 use Rattle.steps.specs.Steps.{Arrival, arrival, seen_of, turn_of, id_at, event_of, Outcome, outcome_of}
 use Rattle.steps.proofs.Laws.{decider_rule, turn_plain}
 use Rattle.firewall.specs.Firewall.{
+  Refused,
   refused,
   done,
   answered,
@@ -52,7 +53,6 @@ use Rattle.firewall.specs.Firewall.{
   after_frame,
   judge_of,
 }
-use Rattle.firewall.specs.declared.refusal.Refusal.{Refusal}
 use Rattle.theorems.specs.Run.{Told, Good, Judges}
 
 -- ---- good words
@@ -140,7 +140,7 @@ module _ (t : Table) (w : Lent) (a : Arrival) (space : List ℕ) where
 
 -- one refusal for every frame
 pub record Refuses (t : Table) (w : Lent) : Type 0 where
-  pub why : Refusal
+  pub why : Refused
   pub all : (a : Arrival) (space : List ℕ) → judge_of t w a space ≡ says (refused why) w space
 
 -- where the table and the record are not good
@@ -163,7 +163,7 @@ good_or_refused t w s = table (fault_of t) refl
 pub judge_two :
     (t : Table) (v w : Lent) (socket : ℕ) (bytes space : List ℕ) (n m : ℕ) (P : After → After → Type 0)
     → records_good t (records_of v) ≡ records_good t (records_of w)
-    → ((r : Refusal) → P (says (refused r) v space) (says (refused r) w space))
+    → ((r : Refused) → P (says (refused r) v space) (says (refused r) w space))
     → ((l : Layers) → fault_of t ≡ fault.Good → records_good t (records_of v) ≡ true → shown_of bytes ≡ shown.Shows l → event_room ≤ length space
     → P (judged_as (outcome t (records_of v) (arrival n socket bytes) l) space) (judged_as (outcome t (records_of w) (arrival m socket bytes) l) space))
     → P (judge_of t v (arrival n socket bytes) space) (judge_of t w (arrival m socket bytes) space)
@@ -208,7 +208,7 @@ judge_two t v w socket bytes space n m P same bad well = table (fault_of t) refl
 -- and after every call
 pub judge_by :
     (t : Table) (w : Lent) (a : Arrival) (space : List ℕ) (P : After → Type 0)
-    → ((r : Refusal) → P (says (refused r) w space))
+    → ((r : Refused) → P (says (refused r) w space))
     → ((l : Layers) → fault_of t ≡ fault.Good → P (judged_as (outcome t (records_of w) a l) space))
     → P (judge_of t w a space)
 judge_by t w a space P bad well =
@@ -230,7 +230,7 @@ start_by t n w P bad well = table (fault_of t) refl
 -- a switch, from words that are good or bad alike
 pub switch_two :
     (t : Table) (n : ℕ) (v w : Lent) (P : AfterCall → AfterCall → Type 0) → records_good t (records_of v) ≡ records_good t (records_of w)
-    → ((r : Refusal) → P (leaves (refused r) v) (leaves (refused r) w))
+    → ((r : Refused) → P (leaves (refused r) v) (leaves (refused r) w))
     → (fault_of t ≡ fault.Good → records_good t (records_of v) ≡ true → n < t.statecount
     → P (leaves done (words_of (switched_to n (records_of v))))
     (leaves done (words_of (switched_to n (records_of w)))))
@@ -262,7 +262,7 @@ switch_two t n v w P same bad well = table (fault_of t) refl
         subst (λ b. P (records v (records_good t (records_of v))) (records w b)) same (by_records (records_good t (records_of v)) refl e)
 
 pub switch_by :
-    (t : Table) (n : ℕ) (w : Lent) (P : AfterCall → Type 0) → ((r : Refusal) → P (leaves (refused r) w))
+    (t : Table) (n : ℕ) (w : Lent) (P : AfterCall → Type 0) → ((r : Refused) → P (leaves (refused r) w))
     → (fault_of t ≡ fault.Good → records_good t (records_of w) ≡ true → n < t.statecount
     → P (leaves done (words_of (switched_to n (records_of w)))))
     → P (switch_of t n w)

@@ -1,7 +1,9 @@
 -- Any two outcomes that the statement of a call allows are equal: an answer is told by what it says. Assumes nothing.
 use Prim.Native.Nat.{ℕ}
 use mathlib.Core.Path.{◌≡◌, refl, sym, ap, ◌∙◌}
-use mathlib.Core.List.{List}
+use mathlib.Core.List.{List, [], ◌∷◌}
+use lib.ListN.{get_or}
+use Rattle.std.specs.Prelude.{⊤, Result, Ok, Err}
 use Rattle.places.specs.Places.{Place, places_of, places_words, ShapedPlaces}
 use Rattle.conversations.specs.Tracking.{Tracked}
 use Rattle.places.proofs.PlaceLaws.{places_back}
@@ -13,22 +15,38 @@ use Rattle.numbers.proofs.Elements.{row_back}
 use Rattle.records.proofs.WordLaws.{words_back}
 use Rattle.steps.specs.Steps.{Stepped, stepped, stepped_as}
 use Rattle.steps.specs.declared.Answer.{Answer}
-use Rattle.firewall.specs.Firewall.{Said, refused, answered, After, says, AfterCall, leaves, said_checked, said_started, said_switched, said_judged}
+use Rattle.firewall.specs.Firewall.{Refused, refused_as, Said, refused, answered, After, says, AfterCall, leaves, said_done, said_judged}
 use Rattle.firewall.specs.declared.refusal.Refusal.{Refusal}
-use Rattle.firewall.specs.declared.Checked.{Checked}
-use Rattle.firewall.specs.declared.Checked.TheVariants as checked
-use Rattle.firewall.specs.declared.Started.{Started}
-use Rattle.firewall.specs.declared.Started.TheVariants as started
-use Rattle.firewall.specs.declared.Switched.{Switched}
-use Rattle.firewall.specs.declared.Switched.TheVariants as switched
-use Rattle.firewall.specs.declared.Judged.{Judged}
-use Rattle.firewall.specs.declared.Judged.TheVariants as judged
+use Rattle.firewall.specs.declared.refusal.Refusal.TheVariants as refusal
 use Rattle.theorems.specs.Unique.{OneOutcome, RowOf, Unique}
 
 -- ---- what is said tells the answer
 
-refusal_same : (r q : Refusal) → refused r ≡ refused q → r ≡ q
-refusal_same r q e = cc
+-- the refusal of a number and the two that 4 carries
+refusal_of : Refused → Refusal
+refusal_of x =
+    get_or
+    (refusal.NoSuchSocket
+    ∷ (refusal.TooShort
+    ∷ (refusal.TooLong
+    ∷ (refusal.NoSpace
+    ∷ (refusal.BadTable (record { place = x.place; setting = record { number = x.setting } }) ∷ (refusal.BadRecord ∷ (refusal.NoSuchState ∷ [])))))))
+    x.number refusal.NoSuchSocket
+
+refusal_back : (r : Refusal) → refusal_of (refused_as r) ≡ r
+unfolding refusal_of
+refusal_back refusal.TooShort = refl
+refusal_back refusal.TooLong = refl
+refusal_back refusal.NoSpace = refl
+refusal_back (refusal.BadTable f) = refl
+refusal_back refusal.BadRecord = refl
+refusal_back refusal.NoSuchState = refl
+refusal_back refusal.NoSuchSocket = refl
+
+refusal_same : (r q : Refusal) → refused (refused_as r) ≡ refused (refused_as q) → r ≡ q
+refusal_same r q e =
+    let same : refused_as r ≡ refused_as q = cc in
+    sym (refusal_back r) ∙ ap refusal_of same ∙ refusal_back q
 
 answer_same :
     (a b : Answer) → answered a.verdict.number a.rule a.length ≡ answered b.verdict.number b.rule b.length
@@ -39,29 +57,17 @@ answer_same a b e =
     let n : a.length ≡ b.length = cc in
     λ i. record { verdict = record { number = v i }; rule = r i; length = n i }
 
-checked_same : (r q : Checked) → said_checked r ≡ said_checked q → r ≡ q
-checked_same (checked.Refused r) (checked.Refused q) e = ap checked.Refused (refusal_same r q e)
-checked_same (checked.Refused r) checked.Good e = cc
-checked_same checked.Good (checked.Refused q) e = cc
-checked_same checked.Good checked.Good e = refl
+done_same : (r q : Result ⊤ Refusal) → said_done r ≡ said_done q → r ≡ q
+done_same (Err r) (Err q) e = ap Err (refusal_same r q e)
+done_same (Err r) (Ok v) e = cc
+done_same (Ok u) (Err q) e = cc
+done_same (Ok u) (Ok v) e = refl
 
-started_same : (r q : Started) → said_started r ≡ said_started q → r ≡ q
-started_same (started.Refused r) (started.Refused q) e = ap started.Refused (refusal_same r q e)
-started_same (started.Refused r) started.Fresh e = cc
-started_same started.Fresh (started.Refused q) e = cc
-started_same started.Fresh started.Fresh e = refl
-
-switched_same : (r q : Switched) → said_switched r ≡ said_switched q → r ≡ q
-switched_same (switched.Refused r) (switched.Refused q) e = ap switched.Refused (refusal_same r q e)
-switched_same (switched.Refused r) switched.Done e = cc
-switched_same switched.Done (switched.Refused q) e = cc
-switched_same switched.Done switched.Done e = refl
-
-judged_same : (r q : Judged) → said_judged r ≡ said_judged q → r ≡ q
-judged_same (judged.Refused r) (judged.Refused q) e = ap judged.Refused (refusal_same r q e)
-judged_same (judged.Refused r) (judged.Answered b) e = cc
-judged_same (judged.Answered a) (judged.Refused q) e = cc
-judged_same (judged.Answered a) (judged.Answered b) e = ap judged.Answered (answer_same a b e)
+judged_same : (r q : Result Answer Refusal) → said_judged r ≡ said_judged q → r ≡ q
+judged_same (Err r) (Err q) e = ap Err (refusal_same r q e)
+judged_same (Err r) (Ok b) e = cc
+judged_same (Ok a) (Err q) e = cc
+judged_same (Ok a) (Ok b) e = ap Ok (answer_same a b e)
 
 -- ---- so does what is left
 
@@ -123,9 +129,9 @@ unique = record {
   laid = λ fs w x h k. h.is ∙ sym k.is;
   wrote = λ event space x y n m h k. (h.count ∙ sym k.count, h.left ∙ sym k.left);
   read = λ bytes r q e f. e ∙ sym f;
-  check = λ t w r q e f. checked_same r q (e ∙ sym f);
-  fresh = λ t reading w. left_same said_started started_same _;
-  switch = λ t state w. left_same said_switched switched_same _;
+  check = λ t w r q e f. done_same r q (e ∙ sym f);
+  fresh = λ t reading w. left_same said_done done_same _;
+  switch = λ t state w. left_same said_done done_same _;
   judge = λ t w a space. after_same said_judged judged_same _;
   step = λ o space. stepped_same (stepped_as o space);
 }

@@ -29,8 +29,7 @@ use Rattle.records.proofs.GoodLaws.{ticked_at, ticked_length, acted_own, acted_o
 use Rattle.records.proofs.WordLaws.{records_shaped}
 use Rattle.events.specs.Events.{event_room}
 use Rattle.steps.specs.Steps.{Arrival, turn_of, outcome_of}
-use Rattle.firewall.specs.Firewall.{refused, plain, After, says, after_frame, judge_of}
-use Rattle.firewall.specs.declared.refusal.Refusal.{Refusal}
+use Rattle.firewall.specs.Firewall.{Refused, refused, plain, After, says, after_frame, judge_of}
 use Rattle.theorems.specs.Run.{Item, arrives, switches, go, tell, Good, Judges}
 use Rattle.theorems.specs.Strike.{kept, Unjudged, Rising, Marked}
 use Rattle.theorems.proofs.Calls.{
@@ -54,7 +53,7 @@ pub record Judged (a : Arrival) (space : List ℕ) : Type 0 where
 
 pub record Turned (a : Arrival) (space : List ℕ) : Type 0 where
   pub never : Unjudged a space
-  pub why : Refusal
+  pub why : Refused
   pub all : (t : Table) (w : Lent) → fault_of t ≡ fault.Good → records_good t (records_of w) ≡ true → judge_of t w a space ≡ says (refused why) w space
 
 abbrev is_refused : Shown → Bool

@@ -1,7 +1,7 @@
 -- "prove that any two outcomes allowed by its statement are equal". Which public function goes by which of these laws is listed in
 -- docs/STATEMENTS.md, by tests/outcomes.
 -- Assumes nothing.
-use Rattle.std.specs.Prelude.{ℕ, ◌≡◌, List, length}
+use Rattle.std.specs.Prelude.{ℕ, ◌≡◌, List, length, ⊤, Result}
 use Rattle.numbers.specs.Lists.{All, Wrote}
 use Rattle.layers.specs.Layers.{shown_of}
 use Rattle.layers.specs.declared.Shown.{Shown}
@@ -16,11 +16,8 @@ use Rattle.conversations.specs.Tracking.{Tracked, tracked_as}
 use Rattle.fields.specs.Fields.{Laid}
 use Rattle.steps.specs.Steps.{Arrival, Outcome, stepped, stepped_as}
 use Rattle.steps.specs.declared.Answer.{Answer}
-use Rattle.firewall.specs.Firewall.{leaves, says, said_checked, said_started, said_switched, said_judged, check_of, start_of, switch_of, judge_of}
-use Rattle.firewall.specs.declared.Checked.{Checked}
-use Rattle.firewall.specs.declared.Started.{Started}
-use Rattle.firewall.specs.declared.Switched.{Switched}
-use Rattle.firewall.specs.declared.Judged.{Judged}
+use Rattle.firewall.specs.Firewall.{leaves, says, said_done, said_judged, check_of, start_of, switch_of, judge_of}
+use Rattle.firewall.specs.declared.refusal.Refusal.{Refusal}
 
 -- a statement that says of an outcome that it is one value allows one outcome
 abbrev pub OneOutcome : Type 1
@@ -50,17 +47,17 @@ pub record Unique : Type 0 where
   pub wrote :
       (event space x y : List ℕ) (n m : ℕ) → Wrote event space x n → Wrote event space y m → (n ≡ m) × (x ≡ y)
   pub read : (bytes : List ℕ) (r q : Shown) → r ≡ shown_of bytes → q ≡ shown_of bytes → r ≡ q
-  pub check : (t : Table) (w : Lent) (r q : Checked) → said_checked r ≡ check_of t w → said_checked q ≡ check_of t w → r ≡ q
+  pub check : (t : Table) (w : Lent) (r q : Result ⊤ Refusal) → said_done r ≡ check_of t w → said_done q ≡ check_of t w → r ≡ q
   pub fresh :
-      (t : Table) (reading : ℕ) (w : Lent) (r q : Started) (v u : Lent) → leaves (said_started r) v ≡ start_of t reading w
-      → leaves (said_started q) u ≡ start_of t reading w
+      (t : Table) (reading : ℕ) (w : Lent) (r q : Result ⊤ Refusal) (v u : Lent) → leaves (said_done r) v ≡ start_of t reading w
+      → leaves (said_done q) u ≡ start_of t reading w
       → (r ≡ q) × (v ≡ u)
   pub switch :
-      (t : Table) (state : ℕ) (w : Lent) (r q : Switched) (v u : Lent) → leaves (said_switched r) v ≡ switch_of t state w
-      → leaves (said_switched q) u ≡ switch_of t state w
+      (t : Table) (state : ℕ) (w : Lent) (r q : Result ⊤ Refusal) (v u : Lent) → leaves (said_done r) v ≡ switch_of t state w
+      → leaves (said_done q) u ≡ switch_of t state w
       → (r ≡ q) × (v ≡ u)
   pub judge :
-      (t : Table) (w : Lent) (a : Arrival) (space : List ℕ) (r q : Judged) (v u : Lent) (x y : List ℕ)
+      (t : Table) (w : Lent) (a : Arrival) (space : List ℕ) (r q : Result Answer Refusal) (v u : Lent) (x y : List ℕ)
       → says (said_judged r) v x ≡ judge_of t w a space → says (said_judged q) u y ≡ judge_of t w a space
       → (r ≡ q) × (v ≡ u) × (x ≡ y)
   pub step :

@@ -30,8 +30,8 @@ tick-requires c =
     let s = c in
     record { rules = good_count (table_in s.args.t.now) s.requires.table; good = s.requires.records }
 
-pub act-v-requires : goal.act-v-requires
-act-v-requires c =
+pub act-verdict-requires : goal.act-verdict-requires
+act-verdict-requires c =
     let d = c in
     let s = d in
     let t = table_in s.args.t.now in
@@ -60,11 +60,11 @@ write_event-length-requires-clause-long c = let d = c in
 pub returns-clause-outcome : goal.returns-clause-outcome
 returns-clause-outcome c = let d = c in
     let a = d.args in
-    let says = c.act-v.ensures in (step_is (table_in a.t.now) a.reading (seen a.second a.frame.now a.l) _ _ _ _ _ _ _ _ _ (who _ _ c.decide-decision.ensures) d.turn-g.ensures c.tick.ensures says.verdict says.records refl c.shape.ensures c.id_at.ensures
+    let says = c.act-verdict.ensures in (step_is (table_in a.t.now) a.reading (seen a.second a.frame.now a.l) _ _ _ _ _ _ _ _ _ (who _ _ c.decide-decision.ensures) d.turn-g.ensures c.tick.ensures says.verdict says.records refl c.shape.ensures c.id_at.ensures
     c.write_event-length.ensures).0
 
 pub returns-clause-records : goal.returns-clause-records
 returns-clause-records c = let d = c in
     let a = d.args in
-    let says = c.act-v.ensures in (step_is (table_in a.t.now) a.reading (seen a.second a.frame.now a.l) _ _ _ _ _ _ _ _ _ (who _ _ c.decide-decision.ensures) d.turn-g.ensures c.tick.ensures says.verdict says.records refl c.shape.ensures c.id_at.ensures
+    let says = c.act-verdict.ensures in (step_is (table_in a.t.now) a.reading (seen a.second a.frame.now a.l) _ _ _ _ _ _ _ _ _ (who _ _ c.decide-decision.ensures) d.turn-g.ensures c.tick.ensures says.verdict says.records refl c.shape.ensures c.id_at.ensures
     c.write_event-length.ensures).1

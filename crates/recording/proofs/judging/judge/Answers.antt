@@ -3,21 +3,20 @@ use Rattle.theorems.specs.Run.{Good}
 use Rattle.recording.proofs.OnJudging.{blank_room, frame_refused, frame_judged}
 use Rattle.recording.proofs.OnRun.{begun_good}
 use Rattle.table.specs.Words.{table_in}
-use Rattle.records.specs.Records.{lent}
 use Rattle.recording.specs.Run.{run}
 use Rattle.recording.proofs.judging.judge.Goals as goal
 
 pub returns-in-Refused-clause-line : goal.returns-in-Refused-clause-line
-returns-in-Refused-clause-line c = let a = c in let p = a.requires in (frame_refused (table_in a.args.t.now) (run a.args.place (lent a.args.head.now a.args.counts.now a.args.places.now)) _ _ _ p.table (subst (Good (table_in a.args.t.now)) (sym c.begin.ensures) (begun_good (table_in a.args.t.now) p.table (run a.args.place (lent a.args.head.now a.args.counts.now a.args.places.now)) _ p.records)) c.begin.ensures _ _ (sym c.read.ensures ∙ c.in-Refused.is) c.number.ensures).0
+returns-in-Refused-clause-line c = let a = c in let p = a.requires in (frame_refused (table_in a.args.t.now) (run a.args.place a.args.words.now) _ _ _ p.table (subst (Good (table_in a.args.t.now)) (sym c.begin.ensures) (begun_good (table_in a.args.t.now) p.table (run a.args.place a.args.words.now) _ p.records)) c.begin.ensures _ _ (sym c.read.ensures ∙ c.in-Refused.is) c.number.ensures).0
 
 pub returns-in-Refused-clause-words : goal.returns-in-Refused-clause-words
-returns-in-Refused-clause-words c = let a = c in let p = a.requires in (frame_refused (table_in a.args.t.now) (run a.args.place (lent a.args.head.now a.args.counts.now a.args.places.now)) _ _ _ p.table (subst (Good (table_in a.args.t.now)) (sym c.begin.ensures) (begun_good (table_in a.args.t.now) p.table (run a.args.place (lent a.args.head.now a.args.counts.now a.args.places.now)) _ p.records)) c.begin.ensures _ _ (sym c.read.ensures ∙ c.in-Refused.is) c.number.ensures).1
+returns-in-Refused-clause-words c = let a = c in let p = a.requires in (frame_refused (table_in a.args.t.now) (run a.args.place a.args.words.now) _ _ _ p.table (subst (Good (table_in a.args.t.now)) (sym c.begin.ensures) (begun_good (table_in a.args.t.now) p.table (run a.args.place a.args.words.now) _ p.records)) c.begin.ensures _ _ (sym c.read.ensures ∙ c.in-Refused.is) c.number.ensures).1
 
 pub step-a-requires : goal.step-a-requires
-step-a-requires c = let a = c in let p = a.requires in record { table = p.table; records = (subst (Good (table_in a.args.t.now)) (sym c.begin.ensures) (begun_good (table_in a.args.t.now) p.table (run a.args.place (lent a.args.head.now a.args.counts.now a.args.places.now)) _ p.records)).good; shows = sym c.read.ensures ∙ c.in-Shows.is; room = blank_room }
+step-a-requires c = let a = c in let p = a.requires in record { table = p.table; records = (subst (Good (table_in a.args.t.now)) (sym c.begin.ensures) (begun_good (table_in a.args.t.now) p.table (run a.args.place a.args.words.now) _ p.records)).good; shows = sym c.read.ensures ∙ c.in-Shows.is; room = blank_room }
 
 pub returns-clause-line : goal.returns-clause-line
-returns-clause-line c = let a = c in let p = a.requires in (frame_judged (table_in a.args.t.now) (run a.args.place (lent a.args.head.now a.args.counts.now a.args.places.now)) _ _ _ p.table (subst (Good (table_in a.args.t.now)) (sym c.begin.ensures) (begun_good (table_in a.args.t.now) p.table (run a.args.place (lent a.args.head.now a.args.counts.now a.args.places.now)) _ p.records)) c.begin.ensures _ _ _ _ _ (sym c.read.ensures ∙ c.in-Shows.is) c.step-a.ensures.outcome c.event_number.ensures).0
+returns-clause-line c = let a = c in let p = a.requires in (frame_judged (table_in a.args.t.now) (run a.args.place a.args.words.now) _ _ _ p.table (subst (Good (table_in a.args.t.now)) (sym c.begin.ensures) (begun_good (table_in a.args.t.now) p.table (run a.args.place a.args.words.now) _ p.records)) c.begin.ensures _ _ _ _ _ (sym c.read.ensures ∙ c.in-Shows.is) c.step-a.ensures.outcome c.event_number.ensures).0
 
 pub returns-clause-words : goal.returns-clause-words
-returns-clause-words c = let a = c in let p = a.requires in (frame_judged (table_in a.args.t.now) (run a.args.place (lent a.args.head.now a.args.counts.now a.args.places.now)) _ _ _ p.table (subst (Good (table_in a.args.t.now)) (sym c.begin.ensures) (begun_good (table_in a.args.t.now) p.table (run a.args.place (lent a.args.head.now a.args.counts.now a.args.places.now)) _ p.records)) c.begin.ensures _ _ _ _ _ (sym c.read.ensures ∙ c.in-Shows.is) c.step-a.ensures.outcome c.event_number.ensures).1
+returns-clause-words c = let a = c in let p = a.requires in (frame_judged (table_in a.args.t.now) (run a.args.place a.args.words.now) _ _ _ p.table (subst (Good (table_in a.args.t.now)) (sym c.begin.ensures) (begun_good (table_in a.args.t.now) p.table (run a.args.place a.args.words.now) _ p.records)) c.begin.ensures _ _ _ _ _ (sym c.read.ensures ∙ c.in-Shows.is) c.step-a.ensures.outcome c.event_number.ensures).1

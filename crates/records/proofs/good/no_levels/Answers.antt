@@ -19,14 +19,14 @@ pub loop-i-init : goal.loop-i-init
 loop-i-init c =
     let a = c.args in
     let p = level_from a.from a.counts.now in
-    (omega arith, omega arith, sym (below_all p a.from (λ j m. or_first (ltb j a.from) _ (lt-ltb j a.from m))))
+    sym (below_all p a.from (λ j m. or_first (ltb j a.from) _ (lt-ltb j a.from m)))
 
 pub loop-i-preserved : goal.loop-i-preserved
 loop-i-preserved c =
     let a = c.args in
     let l = c.loop-i in
-    let beyond : ltb l.i a.from ≡ false = le-ltb l.i a.from l.invariant.1 in
+    let beyond : ltb l.i a.from ≡ false = le-ltb l.i a.from (omega arith) in
     let row = get_or a.counts.now l.i [] in
     let l0 = get_or row 0 0 in
     let l1 = get_or row 1 0 in
-    (omega arith, omega arith, or_zero l.any (bit_or l0 l1) ∙ below_more (level_from a.from a.counts.now) l.i _ _ l.invariant.2 (or_zero l0 l1 ∙ no_levels_is row ∙ ap (λ b. b || levels_good bucket.Unset (rule_of row [])) (sym beyond)))
+    or_zero l.any (bit_or l0 l1) ∙ below_more (level_from a.from a.counts.now) l.i _ _ l.invariant (or_zero l0 l1 ∙ no_levels_is row ∙ ap (λ b. b || levels_good bucket.Unset (rule_of row [])) (sym beyond))
