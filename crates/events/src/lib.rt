@@ -112,6 +112,7 @@ impl Span {
     }
 }
 
+// One function for each header, and not one over all: each is found in a case of its own and ends in its own way.
 fn ipv4_span(ip: Ip) -> Span
     ensures { result ≡ ipv4_span ip }
 {

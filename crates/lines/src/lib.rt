@@ -37,6 +37,7 @@ impl Line {
 // The space that one line may take: five numbers of at most 20 digits, and what stands between them.
 pub const ROOM: usize = 128;
 
+// The room is a clause of each that writes a line, and no type: callers lend what is left of a buffer, which is any number of bytes from 128 on.
 fn cut_short(out: &mut [u8]) -> usize
     requires { line_room ≤ length out.old }
     ensures { Wrote (text_of Line.Cut) out.old out.new result }

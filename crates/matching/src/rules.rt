@@ -49,6 +49,7 @@ pub(crate) fn link_matches(r: LinkSettings, second: bool, x: Link) -> bool
         && tag_agrees(r, x.tag)
 }
 
+// Not one function with `ipv6_agrees`: IPv4 names its protocol, of IPv6 it is the number after the chain, if that ends.
 pub(crate) fn ipv4_agrees(r: Ipv4Settings, p: Packet) -> bool
     ensures { result ≡ every (ipv4_tests r p) }
 {

@@ -51,6 +51,7 @@ fn is_whole(s: &[u8], at: usize) -> bool
     f / MORE_FRAGMENTS % 2 == 0 && f % MORE_FRAGMENTS == 0
 }
 
+// The frame with a place and a length, here and below, and not the part alone: every offset that is answered counts from the frame's start.
 #[tactic(auto, unfolding(crate::specs::Transport::tcp_here, crate::specs::Transport::tcp_tests))]
 fn tcp_here(s: &[u8], protocol: u8, at: usize, len: usize) -> bool
     requires { at + len ≤ length s.now }

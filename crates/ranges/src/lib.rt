@@ -70,6 +70,7 @@ fn link_fault(s: LinkSettings) -> Result<(), SettingNumber>
     test(s.socket.is_unset_or(|v| v <= 1), SettingNumber::Socket)
 }
 
+// Not one function with `ipv6_fault`: of IPv4 a protocol is never at fault, and nothing is asked of what stands beside.
 fn ipv4_fault(s: Ipv4Settings) -> Result<(), SettingNumber>
     ensures { result ≡ fault_in (ipv4_tests s) }
 {
