@@ -44,12 +44,6 @@ impl From<u32> for Wide {
     }
 }
 
-pub fn wide128(x: u32) -> Wide
-    ensures { result ≡ low32 x }
-{
-    x.into()
-}
-
 // Kind and all bits: an IPv4 address never equals an IPv6 one.
 #[tactic(auto, unfolding(crate::specs::Addresses::same_address))]
 pub fn same_address(a: Address, b: Address) -> bool
@@ -125,16 +119,4 @@ fn word_agrees(w: u8, n: u8, a: u64, b: u64) -> bool
 {
     let k = w.saturating_sub(n);
     64 <= k || (a >> k) == (b >> k)
-}
-
-pub fn prefix32_agrees(n: u8, a: u32, b: u32) -> bool
-    ensures { result ≡ prefix_agrees 32 n a b }
-{
-    u32::prefix_agrees(n, a, b)
-}
-
-pub fn prefix128_agrees(n: u8, a: Wide, b: Wide) -> bool
-    ensures { result ≡ prefix_agrees 128 n (value_of a) (value_of b) }
-{
-    Wide::prefix_agrees(n, a, b)
 }

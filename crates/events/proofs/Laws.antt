@@ -11,9 +11,6 @@ use native.Mathlib.Omega.{arith}
 use Rattle.numbers.specs.Lists.{firsts, copies}
 use Rattle.numbers.proofs.Lists.{length_copies}
 use Rattle.layers.specs.Inside.{Inside}
-use Rattle.layers.specs.Layers.{most, shown_of}
-use Rattle.layers.proofs.Laws.{shows_inside, shows_long}
-use Rattle.std.specs.Prelude.{Ok}
 use Rattle.payloads.specs.Someip.{message_at}
 use Rattle.payloads.specs.Inside.{TransportInside, SomeipInside}
 use Rattle.payloads.proofs.Cutting.{walked}
@@ -176,13 +173,6 @@ span_fits event.Ipv6Mismatch s l h k = ipv6_fits s l.ip h.ip
 span_fits event.TcpMismatch s l h k = tcp_fits s l.transport h.transport
 span_fits event.UdpMismatch s l h k = udp_fits s l.transport h.transport
 span_fits event.SomeipMismatch s l h k = someip_fits s l.someip h.someip
-
--- of a frame that is seen
-pub span_inside :
-    (e : Event) (s : List ℕ) (l : Layers) (p : Span) → shown_of s ≡ Ok l → p ≡ span_of e l → (p.at + p.len ≤ length s) × (length s ≤ most)
-span_inside e s l p h q =
-    let i = shows_inside s l h in
-    (rw q (span_fits e s l i (shows_long s l h)), i.size)
 
 -- ---- the event written to the start of a space
 

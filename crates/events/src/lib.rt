@@ -4,6 +4,7 @@
 ghost use Rattle.std.specs.Prelude.{◌≡◌, Bool, ◌++◌, ◌/◌, ◌%◌, ◌≤◌, length, drop};
 ghost use Rattle.numbers.specs.Bytes.{byte};
 ghost use Rattle.numbers.specs.Lists.{Wrote};
+ghost use Rattle.layers.specs.Layers.{least};
 ghost use Rattle.layers.specs.Seen.{seen};
 ghost use Rattle.table.specs.Words.{rule_in};
 ghost use Rattle.events.specs.Events.{array, number_of, event_bytes, longest_event, mismatch_of};
@@ -219,7 +220,8 @@ fn fill(header: &[u8], space: &mut [u8])
 
 // Writes the event to the start of the space, and nothing beyond it. No event shows the socket.
 pub fn write(e: Event, id: u16, x: &Seen, space: &mut [u8]) -> usize
-    requires { longest_event ≤ length space.old }
+    requires long { least ≤ length x.now.frame.now }
+    requires room { longest_event ≤ length space.old }
     ensures { (second : Bool) → Wrote (event_bytes e id (seen second x.now.frame.now x.now.layers)) space.old space.new result }
 {
     head(e.number(), id, space);

@@ -115,10 +115,6 @@ module _ (s : List ℕ) (l : Layers) (e : shown_of s ≡ Ok l) where
         someip = someip_inside s (transport_of s i) wt;
       })
 
-  -- the frame has at least the bytes of a link header
-  pub shows_long : link_bytes ≤ length s
-  shows_long = (short_fits s (shows_is s l e).0).0
-
   -- no transport without IP
   pub no_transport : l.ip ≡ ip.Absent → l.transport ≡ transport.Absent
   unfolding transport_of

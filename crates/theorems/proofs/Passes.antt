@@ -13,7 +13,6 @@ use Rattle.layers.specs.Seen.{Seen}
 use Rattle.table.specs.declared.Action.{Action}
 use Rattle.table.specs.declared.Rule.{Rule}
 use Rattle.table.specs.declared.Table.{Table}
-use Rattle.faults.specs.declared.Fault.TheVariants as fault
 use Rattle.table.specs.declared.Room.{Room}
 use Rattle.table.specs.Table.{rule_at, state_at, is_allow, bucket_of, tracking_of}
 use Rattle.faults.specs.Faults.{fault_of}
@@ -73,6 +72,7 @@ use Rattle.theorems.specs.Passes.{
 use Rattle.theorems.proofs.Calls.{outcome, judge_two}
 use Rattle.std.specs.Prelude.{Option}
 use Rattle.std.specs.Prelude.{Some, None}
+use Rattle.std.specs.Prelude.{Ok}
 
 -- ---- the decider is the first match, or the default where there is none
 
@@ -278,7 +278,7 @@ module _ (t : Table) (s : Records) (reading : ℕ) (x : Seen) (few : t.rulecount
       })
 
 outcome_exactly :
-    (t : Table) (s : Records) (reading : ℕ) (x : Seen) → fault_of t ≡ fault.Good → Exactly t s reading x (outcome_of t s reading x).verdict
+    (t : Table) (s : Records) (reading : ℕ) (x : Seen) → fault_of t ≡ Ok tt → Exactly t s reading x (outcome_of t s reading x).verdict
 outcome_exactly t s reading x f =
     let few = good_count t f in
     subst (Exactly t s reading x) (sym (outcome_verdict t s reading x few))

@@ -19,6 +19,7 @@ use Rattle.firewall.specs.Firewall.{Refused, refused_as, Said, refused, answered
 use Rattle.firewall.specs.declared.refusal.Refusal.{Refusal}
 use Rattle.firewall.specs.declared.refusal.Refusal.TheVariants as refusal
 use Rattle.theorems.specs.Unique.{OneOutcome, RowOf, Unique}
+use Rattle.verdicts.specs.Verdict.{verdict_number}
 
 -- ---- what is said tells the answer
 
@@ -49,10 +50,10 @@ refusal_same r q e =
     sym (refusal_back r) ∙ ap refusal_of same ∙ refusal_back q
 
 answer_same :
-    (a b : Answer) → answered a.verdict.number a.rule a.length ≡ answered b.verdict.number b.rule b.length
+    (a b : Answer) → answered (verdict_number a.verdict) a.rule a.length ≡ answered (verdict_number b.verdict) b.rule b.length
     → a ≡ b
 answer_same a b e =
-    let v : a.verdict.number ≡ b.verdict.number = cc in
+    let v : (verdict_number a.verdict) ≡ (verdict_number b.verdict) = cc in
     let r : a.rule ≡ b.rule = cc in
     let n : a.length ≡ b.length = cc in
     λ i. record { verdict = record { number = v i }; rule = r i; length = n i }

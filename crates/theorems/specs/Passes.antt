@@ -5,7 +5,6 @@ use Rattle.std.specs.Prelude.{ℕ, ◌<◌, ◌↔◌, ◌≡◌, Bool, true, fa
 use Rattle.layers.specs.Layers.{shown_of}
 use Rattle.layers.specs.Seen.{Seen}
 use Rattle.layers.specs.declared.Layers.{Layers}
-use Rattle.layers.specs.declared.Shown.TheVariants as shown
 use Rattle.table.specs.declared.Room.{Room}
 use Rattle.table.specs.declared.Rule.{Rule}
 use Rattle.table.specs.declared.Table.{Table}
@@ -30,6 +29,7 @@ use Rattle.steps.specs.Steps.{Arrival, seen_of, turn_of}
 use Rattle.firewall.specs.Firewall.{answered, judge_of}
 use Rattle.std.specs.Prelude.{Option}
 use Rattle.std.specs.Prelude.{Some, None}
+use Rattle.std.specs.Prelude.{Ok}
 
 -- ---- "the first active rule that matches it"; x is what is seen of the frame
 
@@ -108,6 +108,6 @@ Exactly t s reading x v = ((v ≡ allowed) ↔ ByRule t s reading x) × ((v ≡ 
 -- of every judged frame
 abbrev pub PassesExactly : Type 0
 PassesExactly =
-    (t : Table) (w : Lent) (a : Arrival) (space : List ℕ) (l : Layers) (v id n : ℕ) → shown_of a.bytes ≡ shown.Shows l
+    (t : Table) (w : Lent) (a : Arrival) (space : List ℕ) (l : Layers) (v id n : ℕ) → shown_of a.bytes ≡ Ok l
     → (judge_of t w a space).said ≡ answered v id n
     → Exactly t (records_of w) a.reading (seen_of a l) v

@@ -4,7 +4,6 @@
 use Rattle.std.specs.Prelude.{ℕ, ◌≡◌, List, length, ⊤, Result}
 use Rattle.numbers.specs.Lists.{All, Wrote}
 use Rattle.layers.specs.Layers.{shown_of}
-use Rattle.layers.specs.declared.Shown.{Shown}
 use Rattle.table.specs.declared.Table.{Table}
 use Rattle.records.specs.Records.{Records, Lent, records_of, Shaped}
 use Rattle.verdicts.specs.Record.{RuleRecord, count_size, rule_of}
@@ -18,6 +17,8 @@ use Rattle.steps.specs.Steps.{Arrival, Outcome, stepped, stepped_as}
 use Rattle.steps.specs.declared.Answer.{Answer}
 use Rattle.firewall.specs.Firewall.{leaves, says, said_done, said_judged, check_of, start_of, switch_of, judge_of}
 use Rattle.firewall.specs.declared.refusal.Refusal.{Refusal}
+use Rattle.layers.specs.declared.Layers.{Layers}
+use Rattle.layers.specs.declared.FrameRefusal.{FrameRefusal}
 
 -- a statement that says of an outcome that it is one value allows one outcome
 abbrev pub OneOutcome : Type 1
@@ -46,7 +47,7 @@ pub record Unique : Type 0 where
   pub laid : (fs : List (ℕ × ℕ)) (w x : ℕ) → Laid fs w → Laid fs x → w ≡ x
   pub wrote :
       (event space x y : List ℕ) (n m : ℕ) → Wrote event space x n → Wrote event space y m → (n ≡ m) × (x ≡ y)
-  pub read : (bytes : List ℕ) (r q : Shown) → r ≡ shown_of bytes → q ≡ shown_of bytes → r ≡ q
+  pub read : (bytes : List ℕ) (r q : Result Layers FrameRefusal) → r ≡ shown_of bytes → q ≡ shown_of bytes → r ≡ q
   pub check : (t : Table) (w : Lent) (r q : Result ⊤ Refusal) → said_done r ≡ check_of t w → said_done q ≡ check_of t w → r ≡ q
   pub fresh :
       (t : Table) (reading : ℕ) (w : Lent) (r q : Result ⊤ Refusal) (v u : Lent) → leaves (said_done r) v ≡ start_of t reading w
