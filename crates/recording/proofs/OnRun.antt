@@ -12,7 +12,10 @@ use Rattle.numbers.specs.Lists.{ends}
 use Rattle.numbers.proofs.Lists.{cond_both}
 use Rattle.packets.specs.Link.{tagged, tagged_bytes}
 use Rattle.layers.specs.Layers.{least, most, too_short, shown_of}
+use Rattle.layers.specs.declared.FrameRefusal.{FrameRefusal}
 use Rattle.layers.specs.declared.FrameRefusal.TheVariants as refusal
+use Rattle.layers.specs.declared.Layers.{Layers}
+use Rattle.std.specs.Prelude.{Result}
 use Rattle.table.specs.declared.Table.{Table}
 use Rattle.faults.specs.Faults.{fault_of}
 use Rattle.records.specs.Records.{Lent}
@@ -69,7 +72,7 @@ long_refused s h =
     let b : ltb (length s) tagged_bytes ≡ false = le-ltb (length s) tagged_bytes (omega arith) in
     rw (a, b, lt-ltb _ _ h) (short (tagged s))
   where
-    short : (b : Bool) → cond (b && false) (Err refusal.TooShort) (Err refusal.TooLong) ≡ Err refusal.TooLong
+    short : (b : Bool) → ◌≡◌ {A = Result Layers FrameRefusal} (cond (b && false) (Err refusal.TooShort) (Err refusal.TooLong)) (Err refusal.TooLong)
     short true = refl
     short false = refl
 
