@@ -83,11 +83,11 @@ fn judge_frame(
     ensures { says (said_judged result) words.new space.new
         ≡ after_frame (table_in t.now) words.old (arrival reading socket frame.now) space.old (shown_of frame.now) }
 {
-    let l = layers::read(frame)?;
+    let seen = layers::see(socket == 1, frame)?;
     if space.len() < ROOM {
         return Err(Refusal::NoSpace);
     }
-    Ok(step(t, socket == 1, frame, l, reading, words, space))
+    Ok(step(t, &seen, reading, words, space))
 }
 
 // The same of a frame whose socket is asked first.

@@ -18,6 +18,7 @@ use Rattle.payloads.specs.Someip.{someip_of}
 use Rattle.layers.specs.Layers.{least, most, layers_of, too_short, too_long, refusal_number, shown_of}
 use Rattle.packets.specs.Inside.{TagInside, PacketInside, Packet6Inside, IpInside}
 use Rattle.payloads.specs.Inside.{SegmentInside, DatagramInside, TransportInside, BundleInside, SomeipInside}
+use Rattle.layers.specs.Seen.{Seen, seen, seen_by, see_of}
 use Rattle.layers.specs.Inside.{Inside}
 use Rattle.layers.specs.declared.FrameRefusal.TheVariants as refusal
 use Rattle.packets.specs.declared.Link.{Link}
@@ -160,3 +161,24 @@ number_is s = go (too_short s) (too_long s)
     go true b = refl
     go false true = refl
     go false false = refl
+
+-- ---- what is seen of a frame is its bytes, its socket and what it shows
+
+-- of an answer, told as what is seen
+saw_by :
+    (second : Bool) (s : List ℕ) (r : Result Layers FrameRefusal) (x : Seen) → Ok x ≡ seen_by second s r
+    → (r ≡ Ok x.layers) × (x ≡ seen second s x.layers)
+saw_by second s (Ok l) x e = let q : x ≡ seen second s l = cc in
+    subst (λ (y : Seen). (◌≡◌ {A = Result Layers FrameRefusal} (Ok l) (Ok y.layers)) × (y ≡ seen second s y.layers)) (sym q) (refl, refl)
+saw_by second s (Err r) x e = let z : ◌≡◌ {A = ℕ} 0 1 = cc in absurd (omega arith)
+
+pub saw : (second : Bool) (s : List ℕ) (x : Seen) → Ok x ≡ see_of second s → (shown_of s ≡ Ok x.layers) × (x ≡ seen second s x.layers)
+saw second s x e = saw_by second s (shown_of s) x e
+
+-- and a refusal is the frame's own
+refused_by : (second : Bool) (s : List ℕ) (r : Result Layers FrameRefusal) (f : FrameRefusal) → Err f ≡ seen_by second s r → r ≡ Err f
+refused_by second s (Ok l) f e = let z : ◌≡◌ {A = ℕ} 0 1 = cc in absurd (omega arith)
+refused_by second s (Err g) f e = cc
+
+pub refused : (second : Bool) (s : List ℕ) (f : FrameRefusal) → Err f ≡ see_of second s → shown_of s ≡ Err f
+refused second s f e = refused_by second s (shown_of s) f e

@@ -3,9 +3,8 @@
 
 ghost use Rattle.std.specs.Prelude.{◌≡◌, ◌≤◌, length};
 ghost use Rattle.numbers.specs.Lists.{Wrote};
-ghost use Rattle.layers.specs.Inside.{Inside};
 ghost use Rattle.layers.specs.Layers.{least};
-ghost use Rattle.layers.specs.Seen.{seen};
+ghost use Rattle.layers.specs.Seen.{seen_of};
 ghost use Rattle.table.specs.Table.{most_rules};
 ghost use Rattle.table.specs.Words.{table_in};
 ghost use Rattle.deciding.specs.Best.{best_of};
@@ -18,7 +17,7 @@ use conversations::Turn;
 use deciding::{Best, decide};
 use events::{Event, mismatch, write};
 use flags::flag_kind;
-use layers::Layers;
+use layers::Seen;
 use packets::Ip;
 use payloads::Transport;
 use places::Quad;
@@ -115,27 +114,18 @@ fn event_for(v: Verdict) -> Report
 
 // The mismatch event of the best fit. With no active rule: link and 65,535. The socket is for the promise alone, here and below: no event shows it.
 #[tactic(auto, using(table::proofs::Rows::rule_at_lem, crate::proofs::Laws::best_rule, crate::proofs::Laws::wrote))]
-fn write_best(
-    t: &TableWords,
-    state: usize,
-    best: Best,
-    second: bool,
-    frame: &[u8],
-    l: Layers,
-    space: &mut [u8],
-) -> usize
+fn write_best(t: &TableWords, state: usize, best: Best, x: &Seen, space: &mut [u8]) -> usize
     requires rules { (table_in t.now).rulecount ≤ most_rules }
-    requires best { best ≡ best_of (table_in t.now) state (seen second frame.now l) }
-    requires inside { Inside frame.now l }
-    requires long { least ≤ length frame.now }
+    requires best { best ≡ best_of (table_in t.now) state (seen_of x.now) }
+    requires long { least ≤ length x.now.frame.now }
     requires room { event_room ≤ length space.old }
-    ensures { Wrote (best_event (table_in t.now) state (seen second frame.now l)) space.old space.new result }
+    ensures { Wrote (best_event (table_in t.now) state (seen_of x.now)) space.old space.new result }
 {
     if best.place < DEFAULT {
         let rule = &t[best.place];
-        return write(mismatch(rule, best.layer), id(rule), frame, l, space);
+        return write(mismatch(rule, best.layer), id(rule), x, space);
     }
-    write(Event::LinkMismatch, Answer::NO_RULE, frame, l, space)
+    write(Event::LinkMismatch, Answer::NO_RULE, x, space)
 }
 
 // The event of a verdict, at the start of the space.
@@ -143,51 +133,45 @@ fn write_event(
     t: &TableWords,
     state: usize,
     best: Best,
-    second: bool,
-    frame: &[u8],
-    l: Layers,
+    x: &Seen,
     d: usize,
     v: Verdict,
     space: &mut [u8],
 ) -> usize
     requires rules { (table_in t.now).rulecount ≤ most_rules }
-    requires best { best ≡ best_of (table_in t.now) state (seen second frame.now l) }
-    requires inside { Inside frame.now l }
-    requires long { least ≤ length frame.now }
+    requires best { best ≡ best_of (table_in t.now) state (seen_of x.now) }
+    requires long { least ≤ length x.now.frame.now }
     requires room { event_room ≤ length space.old }
-    ensures { Wrote (event_of (table_in t.now) state (seen second frame.now l) d (verdict_number v)) space.old space.new result }
+    ensures { Wrote (event_of (table_in t.now) state (seen_of x.now) d (verdict_number v)) space.old space.new result }
 {
     match event_for(v) {
         Report::Nothing => 0,
-        Report::Own(e) => write(e, id_at(t, d), frame, l, space),
-        Report::BestFit => write_best(t, state, best, second, frame, l, space),
+        Report::Own(e) => write(e, id_at(t, d), x, space),
+        Report::BestFit => write_best(t, state, best, x, space),
     }
 }
 
 // Steps 1 to 5, and the event.
 pub fn step(
     t: &TableWords,
-    second: bool,
-    frame: &[u8],
-    l: Layers,
+    x: &Seen,
     reading: u64,
     words: &mut RecordWords,
     space: &mut [u8],
 ) -> Answer
-    requires { Ready (table_in t.now) words.old (seen second frame.now l) space.old }
+    requires { Ready (table_in t.now) words.old (seen_of x.now) space.old }
     ensures outcome { stepped result words.new space.new
-        ≡ stepped_as (outcome_of (table_in t.now) (records_of words.old) reading (seen second frame.now l)) space.old }
-    ensures records { records_of words.new
-        ≡ (outcome_of (table_in t.now) (records_of words.old) reading (seen second frame.now l)).records }
+        ≡ stepped_as (outcome_of (table_in t.now) (records_of words.old) reading (seen_of x.now)) space.old }
+    ensures records { records_of words.new ≡ (outcome_of (table_in t.now) (records_of words.old) reading (seen_of x.now)).records }
 {
     let state = words.head[ACTIVE] as usize;
-    let g = turn(second, l.ip, l.transport);
-    let decision = decide(t, state, second, frame, l);
+    let g = turn(x.second, x.layers.ip, x.layers.transport);
+    let decision = decide(t, state, x);
     let d = decision.decider;
     words.tick(t, reading);
     let verdict = words.act(t, g, d);
     shape(*words);
-    let length = write_event(t, state, decision.best, second, frame, l, d, verdict, space);
+    let length = write_event(t, state, decision.best, x, d, verdict, space);
     Answer {
         verdict,
         rule: id_at(t, d),

@@ -1,11 +1,10 @@
 use mathlib.Core.Path.{refl, ap}
-use Rattle.layers.proofs.Laws.{shows_inside}
 use Rattle.faults.proofs.Good.{good_count}
 use Rattle.deciding.specs.declared.Decision.{Decision}
 use Rattle.deciding.proofs.Deciders.{decider_small}
 use Rattle.steps.proofs.Laws.{few_places, shown_long, state_small, ticked_small, step_is}
 use Rattle.std.proofs.Common.{◌≡◌}
-use Rattle.layers.specs.Seen.{seen}
+use Rattle.layers.specs.Seen.{seen_of}
 use Rattle.table.specs.Words.{table_in}
 use Rattle.steps.proofs.step.Goals as goal
 
@@ -20,10 +19,6 @@ decide-decision-requires-clause-state c = let t = table_in c.args.t.now in
 pub decide-decision-requires-clause-rules : goal.decide-decision-requires-clause-rules
 decide-decision-requires-clause-rules c = let t = table_in c.args.t.now in
     let p = c.requires in good_count t p.table
-
-pub decide-decision-requires-clause-inside : goal.decide-decision-requires-clause-inside
-decide-decision-requires-clause-inside c = let t = table_in c.args.t.now in
-    let p = c.requires in shows_inside _ _ p.shows
 
 pub tick-requires : goal.tick-requires
 tick-requires c =
@@ -47,11 +42,6 @@ write_event-length-requires-clause-rules c = let d = c in
     let s = d in
     let p = s.requires in good_count (table_in s.args.t.now) p.table
 
-pub write_event-length-requires-clause-inside : goal.write_event-length-requires-clause-inside
-write_event-length-requires-clause-inside c = let d = c in
-    let s = d in
-    let p = s.requires in shows_inside _ _ p.shows
-
 pub write_event-length-requires-clause-long : goal.write_event-length-requires-clause-long
 write_event-length-requires-clause-long c = let d = c in
     let s = d in
@@ -60,11 +50,11 @@ write_event-length-requires-clause-long c = let d = c in
 pub returns-clause-outcome : goal.returns-clause-outcome
 returns-clause-outcome c = let d = c in
     let a = d.args in
-    let says = c.act-verdict.ensures in (step_is (table_in a.t.now) a.reading (seen a.second a.frame.now a.l) _ _ _ _ _ _ _ _ _ (who _ _ c.decide-decision.ensures) d.turn-g.ensures c.tick.ensures says.verdict says.records refl c.shape.ensures c.id_at.ensures
+    let says = c.act-verdict.ensures in (step_is (table_in a.t.now) a.reading (seen_of a.x.now) _ _ _ _ _ _ _ _ _ (who _ _ c.decide-decision.ensures) d.turn-g.ensures c.tick.ensures says.verdict says.records refl c.shape.ensures c.id_at.ensures
     c.write_event-length.ensures).0
 
 pub returns-clause-records : goal.returns-clause-records
 returns-clause-records c = let d = c in
     let a = d.args in
-    let says = c.act-verdict.ensures in (step_is (table_in a.t.now) a.reading (seen a.second a.frame.now a.l) _ _ _ _ _ _ _ _ _ (who _ _ c.decide-decision.ensures) d.turn-g.ensures c.tick.ensures says.verdict says.records refl c.shape.ensures c.id_at.ensures
+    let says = c.act-verdict.ensures in (step_is (table_in a.t.now) a.reading (seen_of a.x.now) _ _ _ _ _ _ _ _ _ (who _ _ c.decide-decision.ensures) d.turn-g.ensures c.tick.ensures says.verdict says.records refl c.shape.ensures c.id_at.ensures
     c.write_event-length.ensures).1
