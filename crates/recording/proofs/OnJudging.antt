@@ -1,14 +1,14 @@
 -- The line of a frame: what the code tells is what `judge_of` says.
 -- Assumes nothing.
 use Prim.Native.Nat.{ℕ, ◌≤◌}
-use mathlib.Core.Path.{◌≡◌, sym, ap}
+use mathlib.Core.Path.{◌≡◌, sym, ap, ◌∙◌}
 use mathlib.Core.List.{List}
 use mathlib.Core.Bool.{false}
 use native.Mathlib.Omega.{arith}
 use lib.ListN.{length}
 use Rattle.numbers.specs.Lists.{copies}
 use Rattle.layers.specs.Layers.{refusal_number, shown_of}
-use Rattle.layers.specs.Seen.{seen}
+use Rattle.layers.specs.Seen.{Seen, seen}
 use Rattle.layers.specs.declared.FrameRefusal.{FrameRefusal}
 use Rattle.layers.specs.declared.Layers.{Layers}
 use Rattle.table.specs.declared.Table.{Table}
@@ -63,3 +63,12 @@ module _ (t : Table) (r : Run) (time : ℕ) (bytes : List ℕ) (v : Lent) (table
       let judges : Judges (arrival time 0 bytes) blank l = record { socket = omega arith; shows = q; room = blank_room } in
       let call : Stepped → After = λ x. says (answered x.verdict x.rule x.length) x.words x.space in
       rw k (of_call (call (stepped a w space)) (rw (← began, judge_shows t v (arrival time 0 bytes) blank l table records.good judges) (sym (ap call s))))
+
+  -- the same, told of what is seen
+  pub frame_seen :
+      (l : Layers) (x : Seen) (a : Answer) (w : Lent) (space : List ℕ) (e : ℕ) → shown_of bytes ≡ Ok l → x ≡ seen false bytes l
+      → stepped a w space ≡ stepped_as (outcome_of t (records_of v) time x) blank
+      → e ≡ event_number a.length space
+      → OfFrame (line.Judged r.place time (verdict_number a.verdict) a.rule e) w
+  frame_seen l x a w space e q i s k =
+      frame_judged l a w space e q (s ∙ ap (λ (y : Seen). stepped_as (outcome_of t (records_of v) time y) blank) i) k

@@ -46,8 +46,8 @@ pub(crate) fn judge(
 {
     begin(t, place, time, words);
     // Not let .. else, which binds one case, nor ?: both cases hold something, and every way owes a line.
-    let l = match layers::read(frame) {
-        Ok(l) => l,
+    let seen = match layers::see(false, frame) {
+        Ok(seen) => seen,
         Err(f) => {
             return Line::Refused {
                 place,
@@ -57,7 +57,7 @@ pub(crate) fn judge(
         }
     };
     let mut space = [0u8; ROOM];
-    let a = step(t, false, frame, l, time, words, &mut space);
+    let a = step(t, &seen, time, words, &mut space);
     Line::Judged {
         place,
         time,
