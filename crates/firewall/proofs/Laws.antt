@@ -9,8 +9,6 @@ use borrow.Author.Tests.{lt-ltb, le-ltb}
 use lib.ListN.{length, set, length-set}
 use lib.Seq.{get_or-set_same, get_or-set_other}
 use Rattle.table.specs.declared.Table.{Table}
-use Rattle.faults.specs.declared.Fault.{Fault}
-use Rattle.faults.specs.declared.Fault.TheVariants as fault
 use Rattle.faults.specs.Faults.{fault_of}
 use Rattle.records.specs.Records.{Lent, lent, records_of, Shaped}
 use Rattle.records.specs.Good.{records_good}
@@ -19,31 +17,33 @@ use Rattle.steps.specs.Steps.{Arrival}
 use Rattle.firewall.specs.Firewall.{Refused}
 use Rattle.steps.proofs.Laws.{words_are}
 use Rattle.firewall.specs.Firewall.{Said, refused, done, bad_table, bad_record, no_such_state, says, leaves, if_table, check_of, start_of, switch_of, after_socket, judge_of}
+use Rattle.std.specs.Prelude.{Result, Ok, Err, ⊤}
+use Rattle.faults.specs.declared.AtFault.{AtFault}
 
 -- ---- check
 
 -- what is refused was refused by the check
 first_refused :
-    {A : Type 0} (say : Said → A) (rest : A) (r : Refused) (f : Fault) (b : Bool) → refused r ≡ if_table f bad_table (cond b done bad_record)
+    {A : Type 0} (say : Said → A) (rest : A) (r : Refused) (f : Result ⊤ AtFault) (b : Bool) → refused r ≡ if_table f bad_table (cond b done bad_record)
     → say (refused r) ≡ if_table f (λ x. say (bad_table x)) (cond b rest (say bad_record))
-first_refused say rest r (fault.At x) b e = ap say e
-first_refused say rest r fault.Good false e = ap say e
-first_refused say rest r fault.Good true e = let z : ◌≡◌ {A = ℕ} 0 1 = cc in absurd (omega arith)
+first_refused say rest r (Err x) b e = ap say e
+first_refused say rest r (Ok u) false e = ap say e
+first_refused say rest r (Ok u) true e = let z : ◌≡◌ {A = ℕ} 0 1 = cc in absurd (omega arith)
 
 -- and what is not refused is good
-none_refused : (f : Fault) (b : Bool) → done ≡ if_table f bad_table (cond b done bad_record) → (f ≡ fault.Good) × (b ≡ true)
-none_refused (fault.At x) b e = let z : ◌≡◌ {A = ℕ} 0 1 = cc in absurd (omega arith)
-none_refused fault.Good false e = let z : ◌≡◌ {A = ℕ} 0 1 = cc in absurd (omega arith)
-none_refused fault.Good true e = (refl, refl)
+none_refused : (f : Result ⊤ AtFault) (b : Bool) → done ≡ if_table f bad_table (cond b done bad_record) → (f ≡ Ok tt) × (b ≡ true)
+none_refused (Err x) b e = let z : ◌≡◌ {A = ℕ} 0 1 = cc in absurd (omega arith)
+none_refused (Ok u) false e = let z : ◌≡◌ {A = ℕ} 0 1 = cc in absurd (omega arith)
+none_refused (Ok u) true e = (refl, refl)
 
-pub checked_good : (t : Table) (w : Lent) → done ≡ check_of t w → (fault_of t ≡ fault.Good) × (records_good t (records_of w) ≡ true)
+pub checked_good : (t : Table) (w : Lent) → done ≡ check_of t w → (fault_of t ≡ Ok tt) × (records_good t (records_of w) ≡ true)
 unfolding check_of
 checked_good t w e = none_refused (fault_of t) (records_good t (records_of w)) e
 
 -- ---- fresh
 
 pub start_fresh :
-    (t : Table) (reading : ℕ) (w after : Lent) → fault_of t ≡ fault.Good → Shaped after → records_of after ≡ fresh_of reading
+    (t : Table) (reading : ℕ) (w after : Lent) → fault_of t ≡ Ok tt → Shaped after → records_of after ≡ fresh_of reading
     → leaves done after ≡ start_of t reading w
 unfolding start_of
 start_fresh t reading w after e h q = rw (e, words_are after (fresh_of reading) h q)

@@ -1,16 +1,15 @@
 -- The entry points: what each call says and leaves, for every input. Document 01, 'Verdicts, events, refusals'; change requests 1/12 and 6/12.
 -- Assumes nothing.
-use Rattle.std.specs.Prelude.{ℕ, List, cond, length, ltb, ⊤, Result, Ok, Err}
+use Rattle.std.specs.Prelude.{ℕ, List, cond, length, ltb, ⊤, Result, Ok, Err, Some, None}
 use Rattle.numbers.specs.Lists.{written}
 use Rattle.layers.specs.Layers.{refusal_number, shown_of}
 use Rattle.layers.specs.declared.FrameRefusal.{FrameRefusal}
 use Rattle.layers.specs.declared.FrameRefusal.TheVariants as frame
-use Rattle.layers.specs.declared.Shown.{Shown}
-use Rattle.layers.specs.declared.Shown.TheVariants as shown
 use Rattle.table.specs.declared.Table.{Table}
 use Rattle.faults.specs.declared.AtFault.{AtFault}
-use Rattle.faults.specs.declared.Fault.{Fault}
-use Rattle.faults.specs.declared.Fault.TheVariants as fault
+use Rattle.faults.specs.declared.AtFault.TheVariants as at
+use Rattle.ranges.specs.Numbers.{number_or_none}
+use Rattle.table.specs.Table.{most_rules}
 use Rattle.faults.specs.Faults.{fault_of}
 use Rattle.records.specs.Records.{Lent, records_of, words_of}
 use Rattle.records.specs.Good.{records_good}
@@ -20,6 +19,8 @@ use Rattle.steps.specs.declared.Answer.{Answer}
 use Rattle.steps.specs.Steps.{Arrival, seen_of, Outcome, outcome_of}
 use Rattle.firewall.specs.declared.refusal.Refusal.{Refusal}
 use Rattle.firewall.specs.declared.refusal.Refusal.TheVariants as refusal
+use Rattle.layers.specs.declared.Layers.{Layers}
+use Rattle.verdicts.specs.Verdict.{verdict_number}
 
 -- a refusal by its number, and the two that 4 carries
 pub record Refused : Type 0 where
@@ -31,9 +32,10 @@ pub record Refused : Type 0 where
 abbrev pub plain : ℕ → Refused
 plain n = record { number = n; place = 0; setting = 0 }
 
--- "4 now carries two numbers"
+-- "4 now carries two numbers": the place of the first rule at fault and its first setting at fault; the states and the rule count have 64, and "name none"
 abbrev pub at_fault : AtFault → Refused
-at_fault f = record { number = 4; place = f.place; setting = f.setting.number }
+at_fault (at.Rule place setting) = record { number = 4; place = place; setting = number_or_none (Some setting) }
+at_fault at.StatesOrRuleCount = record { number = 4; place = most_rules; setting = number_or_none None }
 
 -- the paper's number and values of each refusal: "1 a frame too short, 2 too long, 3 an event space under 256 bytes, 4 a bad rule table, 5 a bad record,
 -- 6 a switch to a state not in the table", 6/12: "9 for a socket above 1"
@@ -65,7 +67,7 @@ said_done (Ok u) = done
 
 abbrev pub said_judged : Result Answer Refusal → Said
 said_judged (Err r) = refused (refused_as r)
-said_judged (Ok a) = answered a.verdict.number a.rule a.length
+said_judged (Ok a) = answered (verdict_number a.verdict) a.rule a.length
 
 abbrev pub bad_frame : FrameRefusal → Said
 bad_frame f = refused (plain (refusal_number f))
@@ -106,9 +108,9 @@ abbrev pub leaves : Said → Lent → AfterCall
 leaves x w = record { said = x; words = w }
 
 -- "Order: 4, 5, 6, 1, 2, 3, each where the call has that argument", and 9 "after 6": a bad table is refused, or the rest goes on
-abbrev pub if_table : {A : Type 0} → Fault → (AtFault → A) → A → A
-if_table (fault.At f) refuse rest = refuse f
-if_table fault.Good refuse rest = rest
+abbrev pub if_table : {A : Type 0} → Result ⊤ AtFault → (AtFault → A) → A → A
+if_table (Err f) refuse rest = refuse f
+if_table (Ok x) refuse rest = rest
 
 -- "bad rule table, with the place of the first rule at fault" and its first setting at fault, then "bad record"
 unfoldable pub check_of : Table → Lent → Said
@@ -133,9 +135,9 @@ judged_as o space =
     says (answered o.verdict o.rule (length o.event)) (words_of o.records) (written o.event space)
 
 -- a frame, for a good table and a good record: "1, 2, 3", and "the records and event space then hold what they held"; or it is judged
-abbrev pub after_frame : Table → Lent → Arrival → List ℕ → Shown → After
-after_frame t w a space (shown.Refused f) = says (bad_frame f) w space
-after_frame t w a space (shown.Shows l) =
+abbrev pub after_frame : Table → Lent → Arrival → List ℕ → Result Layers FrameRefusal → After
+after_frame t w a space (Err f) = says (bad_frame f) w space
+after_frame t w a space (Ok l) =
     cond (ltb (length space) event_room) (says no_space w space)
     (judged_as (outcome_of t (records_of w) a.reading (seen_of a l)) space)
 

@@ -3,7 +3,6 @@
 
 ghost use Rattle.std.specs.Prelude.{◌≡◌, true};
 ghost use Rattle.layers.specs.Layers.{shown_of};
-ghost use Rattle.faults.specs.declared.Fault.TheVariants as fault;
 ghost use Rattle.faults.specs.Faults.{fault_of};
 ghost use Rattle.table.specs.Words.{table_in};
 ghost use Rattle.records.specs.Records.{records_of};
@@ -26,8 +25,7 @@ pub mod refusal;
 
 pub use crate::refusal::Refusal;
 use events::ROOM;
-use faults::{Fault, first_fault};
-use layers::Shown;
+use faults::first_fault;
 use records::RecordWords;
 use records::shape::shape;
 use steps::{Answer, step};
@@ -39,9 +37,7 @@ use table::words::{ROW_WORDS, ROWS, TableWords, statecount};
 pub fn check(t: &TableWords, words: &RecordWords) -> Result<(), Refusal>
     ensures { said_done result ≡ check_of (table_in t.now) words.now }
 {
-    if let Fault::At(at) = first_fault(t) {
-        return Err(Refusal::BadTable(at));
-    }
+    first_fault(t)?;
     if words.is_good(t) {
         Ok(())
     } else {
@@ -54,9 +50,7 @@ pub fn check(t: &TableWords, words: &RecordWords) -> Result<(), Refusal>
 pub fn fresh(t: &TableWords, reading: u64, words: &mut RecordWords) -> Result<(), Refusal>
     ensures { leaves (said_done result) words.new ≡ start_of (table_in t.now) reading words.old }
 {
-    if let Fault::At(at) = first_fault(t) {
-        return Err(Refusal::BadTable(at));
-    }
+    first_fault(t)?;
     *words = RecordWords::fresh(reading);
     shape(*words);
     Ok(())
@@ -84,15 +78,12 @@ fn judge_frame(
     reading: u64,
     space: &mut [u8],
 ) -> Result<Answer, Refusal>
-    requires table { fault_of (table_in t.now) ≡ fault.Good }
+    requires table { fault_of (table_in t.now) ≡ Ok tt }
     requires record { records_good (table_in t.now) (records_of words.old) ≡ true }
     ensures { says (said_judged result) words.new space.new
         ≡ after_frame (table_in t.now) words.old (arrival reading socket frame.now) space.old (shown_of frame.now) }
 {
-    let l = match layers::read(frame) {
-        Shown::Refused(f) => return Err(f.into()),
-        Shown::Shows(l) => l,
-    };
+    let l = layers::read(frame)?;
     if space.len() < ROOM {
         return Err(Refusal::NoSpace);
     }
@@ -108,7 +99,7 @@ fn judge_socket(
     reading: u64,
     space: &mut [u8],
 ) -> Result<Answer, Refusal>
-    requires table { fault_of (table_in t.now) ≡ fault.Good }
+    requires table { fault_of (table_in t.now) ≡ Ok tt }
     requires record { records_good (table_in t.now) (records_of words.old) ≡ true }
     ensures { says (said_judged result) words.new space.new
         ≡ after_socket (table_in t.now) words.old (arrival reading socket frame.now) space.old }

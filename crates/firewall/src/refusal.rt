@@ -5,6 +5,7 @@ ghost use Rattle.firewall.specs.Firewall.{refused_as, frame_refused};
 
 use faults::AtFault;
 use layers::FrameRefusal;
+use table::RULES;
 
 // A bad table tells the first rule at fault and its first setting at fault.
 #[derive(Clone, Copy)]
@@ -33,6 +34,9 @@ impl Refusal {
 
     pub const NO_SUCH_SOCKET: u8 = 9;
 
+    // What stands for the setting where the states or the rule count are at fault, which name none.
+    pub const NO_SETTING: u8 = 255;
+
     pub fn number(self) -> u8
         ensures { result ≡ (refused_as self).number }
     {
@@ -52,7 +56,8 @@ impl Refusal {
         ensures { result ≡ (refused_as self).place }
     {
         match self {
-            Refusal::BadTable(at) => at.place,
+            Refusal::BadTable(AtFault::Rule { place, .. }) => place,
+            Refusal::BadTable(AtFault::StatesOrRuleCount) => RULES,
             _ => 0,
         }
     }
@@ -62,7 +67,8 @@ impl Refusal {
         ensures { result ≡ (refused_as self).setting }
     {
         match self {
-            Refusal::BadTable(at) => at.setting.number,
+            Refusal::BadTable(AtFault::Rule { setting, .. }) => setting.number(),
+            Refusal::BadTable(AtFault::StatesOrRuleCount) => Refusal::NO_SETTING,
             _ => 0,
         }
     }

@@ -11,7 +11,6 @@ use lib.Seq.{take-append_seam, take-append-add, drop-append_seam, drop-append-ad
 use Rattle.numbers.specs.Lists.{ends, Wrote}
 use Rattle.numbers.proofs.Elements.{part_all, part_none, ends_append, said_append}
 use Rattle.table.specs.declared.Table.{Table}
-use Rattle.faults.specs.declared.Fault.TheVariants as fault
 use Rattle.faults.specs.Faults.{fault_of}
 use Rattle.records.specs.Records.{Lent}
 use Rattle.capture.specs.Capture.{Item, BadHeader, Cut, Refused, Frame, head_size, refusal_number}
@@ -30,6 +29,7 @@ use Rattle.recording.specs.Run.{Run, run, begun, Begun, line_of, run_by, lines_o
 use Rattle.recording.specs.Feed.{place_after, Tells, AfterFeed, feeds, after_moves, fed_of, behind_others, one_more}
 use Rattle.recording.specs.declared.Fed.{Fed}
 use Rattle.recording.proofs.OnRun.{text_append, runs_begun}
+use Rattle.std.specs.Prelude.{Ok}
 
 -- ---- what is judgement of what a move found
 
@@ -118,7 +118,7 @@ module _ (t : Table) (n : ℕ) (st : State) (r : Run) (s space : List ℕ) where
   unfolding fed_of
   fed_count = omega (arith, texts_most t r (moves_of n st s).items, moves_few n st s)
 
-  pub fed_begun : fault_of t ≡ fault.Good → Begun t r → Begun t (run (fed_of t n st r s space).place (fed_of t n st r s space).words)
+  pub fed_begun : fault_of t ≡ Ok tt → Begun t r → Begun t (run (fed_of t n st r s space).place (fed_of t n st r s space).words)
   unfolding fed_of
   fed_begun e g = runs_begun t e r (moves_of n st s).items g
 
@@ -258,7 +258,7 @@ module _ {t : Table} {st : State} {r : Run} {s space : List ℕ} {n : ℕ} {f : 
       ∙ (ap (behind_others f.used a) (fed_goes t (left - 1) f.state (run f.place w) (drop f.used s) (drop f.count out) no_more)
       ∙ (behind_twice f.used moved.used a (take moved.count moved.space) rest ∙ (sym here ∙ ap go (sym e)))))
 
-  pub underway_next : fault_of t ≡ fault.Good → g.more ≡ false → (rest : ℕ) → rest ≡ left - 1 → Underway t st r s space n g v rest o
+  pub underway_next : fault_of t ≡ Ok tt → g.more ≡ false → (rest : ℕ) → rest ≡ left - 1 → Underway t st r s space n g v rest o
   underway_next table m rest less =
       rw less
       (record {

@@ -11,9 +11,7 @@ use Rattle.layers.specs.Layers.{refusal_number, shown_of}
 use Rattle.layers.specs.Seen.{seen}
 use Rattle.layers.specs.declared.FrameRefusal.{FrameRefusal}
 use Rattle.layers.specs.declared.Layers.{Layers}
-use Rattle.layers.specs.declared.Shown.TheVariants as shown
 use Rattle.table.specs.declared.Table.{Table}
-use Rattle.faults.specs.declared.Fault.TheVariants as fault
 use Rattle.faults.specs.Faults.{fault_of}
 use Rattle.records.specs.Records.{Lent, records_of}
 use Rattle.events.specs.Events.{event_room}
@@ -26,6 +24,8 @@ use Rattle.lines.specs.declared.Line.{Line}
 use Rattle.lines.specs.declared.Line.TheVariants as line
 use Rattle.capture.specs.Capture.{Frame}
 use Rattle.recording.specs.Run.{Run, begun, judged, event_number, line_as, line_of, run_by}
+use Rattle.std.specs.Prelude.{Ok, Err}
+use Rattle.verdicts.specs.Verdict.{verdict_number}
 
 -- the event space that each frame's call is given
 abbrev pub blank : List ℕ
@@ -35,7 +35,7 @@ pub blank_room : event_room ≤ length blank
 blank_room = omega arith
 
 -- v are the words as the frame is judged, which the first record begins
-module _ (t : Table) (r : Run) (time : ℕ) (bytes : List ℕ) (v : Lent) (table : fault_of t ≡ fault.Good) (records : Good t v) (began : v ≡ begun t r time) where
+module _ (t : Table) (r : Run) (time : ℕ) (bytes : List ℕ) (v : Lent) (table : fault_of t ≡ Ok tt) (records : Good t v) (began : v ≡ begun t r time) where
   -- a line and words are the frame's
   abbrev OfFrame : Line → Lent → Type 0
   OfFrame l w = (l ≡ line_of t r (Frame time bytes)) × (w ≡ (run_by t r (Frame time bytes)).words)
@@ -47,17 +47,17 @@ module _ (t : Table) (r : Run) (time : ℕ) (bytes : List ℕ) (v : Lent) (table
 
   -- a frame that is refused
   pub frame_refused :
-      (f : FrameRefusal) (n : ℕ) → shown_of bytes ≡ shown.Refused f → n ≡ refusal_number f
+      (f : FrameRefusal) (n : ℕ) → shown_of bytes ≡ Err f → n ≡ refusal_number f
       → OfFrame (line.Refused r.place time n) v
   unfolding judged
   frame_refused f n e k = rw k (of_call (says (bad_frame f) v blank) (rw (← began, judge_good t v (arrival time 0 bytes) blank table records.good (omega arith), e)))
 
   -- one that is judged
   pub frame_judged :
-      (l : Layers) (a : Answer) (w : Lent) (space : List ℕ) (e : ℕ) → shown_of bytes ≡ shown.Shows l
+      (l : Layers) (a : Answer) (w : Lent) (space : List ℕ) (e : ℕ) → shown_of bytes ≡ Ok l
       → stepped a w space ≡ stepped_as (outcome_of t (records_of v) time (seen false bytes l)) blank
       → e ≡ event_number a.length space
-      → OfFrame (line.Judged r.place time a.verdict.number a.rule e) w
+      → OfFrame (line.Judged r.place time (verdict_number a.verdict) a.rule e) w
   unfolding judged
   frame_judged l a w space e q s k =
       let judges : Judges (arrival time 0 bytes) blank l = record { socket = omega arith; shows = q; room = blank_room } in

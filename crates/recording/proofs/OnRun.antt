@@ -12,10 +12,11 @@ use Rattle.numbers.specs.Lists.{ends}
 use Rattle.numbers.proofs.Lists.{cond_both}
 use Rattle.packets.specs.Link.{tagged, tagged_bytes}
 use Rattle.layers.specs.Layers.{least, most, too_short, shown_of}
+use Rattle.layers.specs.declared.FrameRefusal.{FrameRefusal}
 use Rattle.layers.specs.declared.FrameRefusal.TheVariants as refusal
-use Rattle.layers.specs.declared.Shown.TheVariants as shown
+use Rattle.layers.specs.declared.Layers.{Layers}
+use Rattle.std.specs.Prelude.{Result}
 use Rattle.table.specs.declared.Table.{Table}
-use Rattle.faults.specs.declared.Fault.TheVariants as fault
 use Rattle.faults.specs.Faults.{fault_of}
 use Rattle.records.specs.Records.{Lent}
 use Rattle.steps.specs.Steps.{arrival}
@@ -29,6 +30,7 @@ use Rattle.lines.specs.Lines.{text_of}
 use Rattle.lines.specs.declared.Line.{Line}
 use Rattle.recording.specs.Run.{Run, run, begun, Begun, judged, line_as, line_of, run_by, lines_of, text_of_all}
 use Rattle.recording.proofs.OnJudging.{blank}
+use Rattle.std.specs.Prelude.{Ok, Err}
 
 -- ---- the text of lines
 
@@ -39,11 +41,11 @@ text_append (x ∷ k) l = ap (λ m. text_of x ++ m) (text_append k l) ∙ sym (a
 
 -- ---- good records stay good, and fresh ones under a good table are
 
-pub started : (t : Table) (time : ℕ) (w : Lent) → fault_of t ≡ fault.Good → (start_of t time w).said ≡ done
+pub started : (t : Table) (time : ℕ) (w : Lent) → fault_of t ≡ Ok tt → (start_of t time w).said ≡ done
 unfolding start_of
 started t time w e = rw e
 
-module _ (t : Table) (table : fault_of t ≡ fault.Good) where
+module _ (t : Table) (table : fault_of t ≡ Ok tt) where
   pub begun_good : (r : Run) (time : ℕ) → Begun t r → Good t (begun t r time)
   begun_good r time g =
       cond_both (Good t) (eqb r.place 0) _ _ (λ e. good_kept.fresh t time r.words (started t time r.words table))
@@ -63,18 +65,18 @@ module _ (t : Table) (table : fault_of t ≡ fault.Good) where
 
 -- ---- a frame that is too long
 
-long_refused : (s : List ℕ) → most < length s → shown_of s ≡ shown.Refused refusal.TooLong
+long_refused : (s : List ℕ) → most < length s → shown_of s ≡ Err refusal.TooLong
 unfolding shown_of too_short
 long_refused s h =
     let a : ltb (length s) least ≡ false = le-ltb (length s) least (omega arith) in
     let b : ltb (length s) tagged_bytes ≡ false = le-ltb (length s) tagged_bytes (omega arith) in
     rw (a, b, lt-ltb _ _ h) (short (tagged s))
   where
-    short : (b : Bool) → cond (b && false) (shown.Refused refusal.TooShort) (shown.Refused refusal.TooLong) ≡ shown.Refused refusal.TooLong
+    short : (b : Bool) → ◌≡◌ {A = Result Layers FrameRefusal} (cond (b && false) (Err refusal.TooShort) (Err refusal.TooLong)) (Err refusal.TooLong)
     short true = refl
     short false = refl
 
-module _ (t : Table) (table : fault_of t ≡ fault.Good) (r : Run) (good : Begun t r) where
+module _ (t : Table) (table : fault_of t ≡ Ok tt) (r : Run) (good : Begun t r) where
   -- is refused with 2, and changes nothing
   long_judged :
       (time : ℕ) (bytes : List ℕ) → longest < length bytes
@@ -105,7 +107,7 @@ module _ (t : Table) (table : fault_of t ≡ fault.Good) (r : Run) (good : Begun
       (λ e. refl)
 
 pub lines_found :
-    (t : Table) → fault_of t ≡ fault.Good → (r : Run) (l : List Item) → Begun t r
+    (t : Table) → fault_of t ≡ Ok tt → (r : Run) (l : List Item) → Begun t r
     → lines_of t r (map as_found l) ≡ lines_of t r l
 lines_found t table r [] g = refl
 lines_found t table r (i ∷ l) g =
@@ -114,7 +116,7 @@ lines_found t table r (i ∷ l) g =
 
 -- ---- what stood in the words before the first record makes no difference
 
-module _ (t : Table) (table : fault_of t ≡ fault.Good) where
+module _ (t : Table) (table : fault_of t ≡ Ok tt) where
   start_alike : (time : ℕ) (w v : Lent) → begun t (run 0 w) time ≡ begun t (run 0 v) time
   unfolding start_of
   start_alike time w v = rw table

@@ -3,12 +3,12 @@
 use Rattle.std.specs.Prelude.{ℕ, ◌≡◌, List, [], ◌++◌, length}
 use Rattle.numbers.specs.Lists.{joined, ends, said}
 use Rattle.table.specs.declared.Table.{Table}
-use Rattle.faults.specs.declared.Fault.TheVariants as fault
 use Rattle.faults.specs.Faults.{fault_of}
 use Rattle.records.specs.Records.{Lent}
 use Rattle.capture.specs.Parts.{Kept, kept, AtRest, Happening, go_on, finds, all_of}
 use Rattle.capture.specs.declared.State.TheVariants as state
 use Rattle.recording.specs.Run.{Run, run, run_by, text_from, end_text, printed}
+use Rattle.std.specs.Prelude.{Ok}
 
 -- between two calls: what the reader keeps, and the run
 pub record Going : Type 0 where
@@ -31,9 +31,9 @@ writes t x e = text_from t x.run (finds x.reader e)
 -- once no call could find more, what the calls wrote and what the end adds are together what is printed of the whole
 abbrev pub ByParts : Type 0
 ByParts =
-    (t : Table) (w : Lent) (es : List Happening) → let x = (ends (advance t) (at_start w) es).reader in fault_of t ≡ fault.Good → AtRest x
+    (t : Table) (w : Lent) (es : List Happening) → let x = (ends (advance t) (at_start w) es).reader in fault_of t ≡ Ok tt → AtRest x
     → joined (said (advance t) (writes t) (at_start w) es) ++ end_text x.state (length x.rest) ≡ printed t w (all_of es)
 
 -- "fresh at the first record's time": what stood in the words before makes no difference
 abbrev pub WhateverWords : Type 0
-WhateverWords = (t : Table) (w v : Lent) (s : List ℕ) → fault_of t ≡ fault.Good → printed t w s ≡ printed t v s
+WhateverWords = (t : Table) (w v : Lent) (s : List ℕ) → fault_of t ≡ Ok tt → printed t w s ≡ printed t v s

@@ -3,7 +3,6 @@
 use Rattle.std.specs.Prelude.{ℕ, suc, ◌+◌, ◌/◌, ◌<◌, ◌≡◌, List, ◌++◌, Bool, length, take, drop}
 use Rattle.numbers.specs.Lists.{ends, written, Wrote}
 use Rattle.table.specs.declared.Table.{Table}
-use Rattle.faults.specs.declared.Fault.TheVariants as fault
 use Rattle.faults.specs.Faults.{fault_of}
 use Rattle.records.specs.Records.{Lent}
 use Rattle.capture.specs.Capture.{Item}
@@ -14,10 +13,11 @@ use Rattle.capture.specs.declared.Found.TheVariants as found
 use Rattle.lines.specs.Lines.{line_room}
 use Rattle.recording.specs.Run.{Run, run, Begun, run_by, text_from}
 use Rattle.recording.specs.declared.Fed.{Fed}
+use Rattle.std.specs.Prelude.{Ok}
 
 -- what a call of at most n moves asks: a good table, good records once one has begun them, and that the places of its records fit into 64 bits
 pub record Ready (t : Table) (w : Lent) (place n : ℕ) : Type 0 where
-  pub table : fault_of t ≡ fault.Good
+  pub table : fault_of t ≡ Ok tt
   pub records : Begun t (run place w)
   pub places : place + n < 18446744073709551616
 

@@ -1,15 +1,12 @@
 // One frame of a capture judged, with nothing checked again.
 ghost use Rattle.std.specs.Prelude.{◌≡◌};
-ghost use Rattle.faults.specs.declared.Fault.TheVariants as fault;
 ghost use Rattle.faults.specs.Faults.{fault_of};
 ghost use Rattle.table.specs.Words.{table_in};
 ghost use Rattle.capture.specs.Capture.{Frame};
 ghost use Rattle.recording.specs.Run.{run, begun, Begun, event_number, line_of, run_by};
 
 use events::ROOM;
-use layers::Shown;
 use lines::Line;
-use numbers::read16;
 use records::RecordWords;
 use steps::step;
 use table::words::TableWords;
@@ -24,14 +21,14 @@ pub(crate) fn begin(t: &TableWords, place: u64, time: u64, words: &mut RecordWor
 }
 
 // The number at the start of an event, 0 where there is none.
-#[tactic(auto, unfolding(crate::specs::Run::event_number))]
+#[tactic(auto, unfolding(crate::specs::Run::event_number, numbers::specs::Bytes::be))]
 fn event_number(length: usize, space: &[u8; ROOM]) -> u16
     ensures { result ≡ event_number length space.now }
 {
     if length == 0 {
         return 0;
     }
-    read16(space, 0)
+    u16::from_be_bytes([space[0], space[1]])
 }
 
 // The line of a frame at a place, for a good table and good records once one has begun them: "captures .. use socket 0", not the second.
@@ -42,29 +39,29 @@ pub(crate) fn judge(
     frame: &[u8],
     words: &mut RecordWords,
 ) -> Line
-    requires table { fault_of (table_in t.now) ≡ fault.Good }
+    requires table { fault_of (table_in t.now) ≡ Ok tt }
     requires records { Begun (table_in t.now) (run place words.old) }
     ensures line { result ≡ line_of (table_in t.now) (run place words.old) (Frame time frame.now) }
     ensures words { words.new ≡ (run_by (table_in t.now) (run place words.old) (Frame time frame.now)).words }
 {
     begin(t, place, time, words);
-    // Not let .. else: it binds one case, here both hold something, and every way owes a line.
+    // Not let .. else, which binds one case, nor ?: both cases hold something, and every way owes a line.
     let l = match layers::read(frame) {
-        Shown::Refused(f) => {
+        Ok(l) => l,
+        Err(f) => {
             return Line::Refused {
                 place,
                 time,
                 number: f.number(),
             };
         }
-        Shown::Shows(l) => l,
     };
     let mut space = [0u8; ROOM];
     let a = step(t, false, frame, l, time, words, &mut space);
     Line::Judged {
         place,
         time,
-        verdict: a.verdict.number,
+        verdict: a.verdict.number(),
         rule: a.rule,
         event: event_number(a.length, &space),
     }

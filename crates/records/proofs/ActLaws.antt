@@ -5,11 +5,8 @@ use mathlib.Core.Path.{◌≡◌, refl, sym, ap, ◌∙◌}
 use mathlib.Core.List.{List, []}
 use lib.ListN.{length, get_or, set, get_or-eq_default}
 use native.Mathlib.Omega.{arith}
-use Rattle.faults.specs.declared.Fault.TheVariants as fault
 use Rattle.table.specs.declared.Room.{Room}
 use Rattle.table.specs.declared.Table.{Table}
-use Rattle.table.specs.declared.Tracking.{Tracking}
-use Rattle.table.specs.declared.Tracking.TheVariants as tracking
 use Rattle.table.specs.Table.{rule_at, state_at, tracking_of}
 use Rattle.faults.specs.Faults.{fresh_id, fault_of}
 use Rattle.faults.proofs.Good.{good_rule, good_tracking}
@@ -22,15 +19,18 @@ use Rattle.records.specs.Step.{reaction, acted}
 use Rattle.records.proofs.CodeLaws.{rule_set, count_set}
 use Rattle.records.proofs.WordLaws.{rules_at}
 use Rattle.records.proofs.GoodLaws.{at_rule, at_default}
+use Rattle.std.specs.Prelude.{Option}
+use Rattle.std.specs.Prelude.{Some, None}
+use Rattle.std.specs.Prelude.{Ok}
 
 -- ---- what a part asks of the rule that decides
 
-places_of : (k : Tracking) → ((m : Room) → k ≡ tracking.Set m → m.places ≤ 8) → places_in k ≤ 8
-places_of tracking.Unset h = omega arith
-places_of (tracking.Set m) h = h m refl
+places_of : (k : Option Room) → ((m : Room) → k ≡ Some m → m.places ≤ 8) → places_in k ≤ 8
+places_of None h = omega arith
+places_of (Some m) h = h m refl
 
 -- a good table's rule has at most 8 places
-pub good_room : (t : Table) → fault_of t ≡ fault.Good → (d : ℕ) → d < t.rulecount → places_in (tracking_of (rule_at t d)) ≤ 8
+pub good_room : (t : Table) → fault_of t ≡ Ok tt → (d : ℕ) → d < t.rulecount → places_in (tracking_of (rule_at t d)) ≤ 8
 good_room t e d h =
     places_of (tracking_of (rule_at t d)) (λ m q. (good_tracking (fresh_id t d) (rule_at t d) (good_rule t e d h) m q).1)
 

@@ -12,7 +12,6 @@ use Rattle.numbers.specs.Lists.{all_below}
 use Rattle.numbers.proofs.Lists.{and_both, and_true_true, below_all, below_at}
 use Rattle.table.specs.declared.Rule.{Rule}
 use Rattle.table.specs.declared.Table.{Table}
-use Rattle.table.specs.declared.Bucket.TheVariants as bucket
 use Rattle.table.specs.Table.{no_rule}
 use Rattle.table.specs.Table as table
 use Rattle.table.specs.Words.{rule_in, table_in}
@@ -26,6 +25,7 @@ use Rattle.records.specs.Good.{rule_of_record, level_from, slots_good, records_g
 use Rattle.verdicts.proofs.GoodCode.{level_unset, none_is}
 use Rattle.records.proofs.GoodLaws.{rule_within, rule_beyond}
 use Rattle.records.proofs.WordLaws.{rules_at}
+use Rattle.std.specs.Prelude.{None}
 
 -- ---- all rules
 
@@ -42,7 +42,7 @@ rule_good t cs ps i b k m h e =
 
 -- a slot without a rule
 abbrev no_levels : List ℕ → Bool
-no_levels c = levels_good bucket.Unset (rule_of c [])
+no_levels c = levels_good None (rule_of c [])
 
 pub no_levels_is : (c : List ℕ) → (eqb (get_or c 0 0) 0 && eqb (get_or c 1 0) 0) ≡ no_levels c
 no_levels_is c = ap₂ ◌&&◌ (level_unset (get_or c 0 0)) (level_unset (get_or c 1 0))
@@ -93,7 +93,7 @@ rules_64 t e = length-map (take 64 t) rule_in ∙ length-take 64 t ∙ ap (min 6
 -- the active state and the rules, and then the default
 pub all_is : (t : Table) (h : List ℕ) (cs : List (List ℕ)) (ps : List (List (List ℕ))) (a b : Bool) → length t.rules ≡ 64 → length cs ≡ 65 → length ps ≡ 64
     → a ≡ (ltb (get_or h 1 0) t.statecount && all_below (good_at t cs ps) 64)
-    → b ≡ levels_good bucket.Unset (rule_of (get_or cs 64 []) [])
+    → b ≡ levels_good None (rule_of (get_or cs 64 []) [])
     → (a && b) ≡ records_good t (records_of (lent h cs ps))
 unfolding records_good records_of all_below
 all_is t h cs ps a b l m n e g =

@@ -14,15 +14,10 @@ use Rattle.numbers.proofs.Lists.{and_both, and_true_true, below_at, below_all, l
 use Rattle.table.specs.declared.Rule.{Rule}
 use Rattle.table.specs.declared.Table.{Table}
 use Rattle.table.specs.declared.Action.{Action}
-use Rattle.table.specs.declared.Tracking.{Tracking}
-use Rattle.faults.specs.declared.Fault.TheVariants as fault
 use Rattle.table.specs.Table.{no_rule, rule_at, state_at, rules_of, bucket_of, tracking_of, most_places}
 use Rattle.faults.specs.Faults.{fresh_id, fault_of}
 use Rattle.table.specs.declared.Room.{Room}
 use Rattle.faults.proofs.Good.{good_count, good_rule, good_states, good_tracking}
-use Rattle.table.specs.declared.Bucket.{Bucket}
-use Rattle.table.specs.declared.Bucket.TheVariants as bucket
-use Rattle.table.specs.declared.Tracking.TheVariants as tracking
 use Rattle.places.specs.Places.{free, is_free, Fits}
 use Rattle.places.specs.Ageing.{aged_places}
 use Rattle.places.specs.Good.{young, clean, room_in, fits_kind}
@@ -52,14 +47,18 @@ use Rattle.verdicts.proofs.RuleLaws.{
   reacted_places,
   reacted_fit,
 }
+use Rattle.table.specs.declared.Rate.{Rate}
+use Rattle.std.specs.Prelude.{Option}
+use Rattle.std.specs.Prelude.{Some, None}
+use Rattle.std.specs.Prelude.{Ok}
 
 -- ---- a good table
 
-limit_of : (k : Tracking) → ((m : Room) → k ≡ tracking.Set m → 1 ≤ m.limit) → LimitGood k
-limit_of tracking.Unset h = tt
-limit_of (tracking.Set m) h = h m refl
+limit_of : (k : Option Room) → ((m : Room) → k ≡ Some m → 1 ≤ m.limit) → LimitGood k
+limit_of None h = tt
+limit_of (Some m) h = h m refl
 
-good_limit : (t : Table) → fault_of t ≡ fault.Good → (i : ℕ) → i < t.rulecount → LimitGood (tracking_of (rule_at t i))
+good_limit : (t : Table) → fault_of t ≡ Ok tt → (i : ℕ) → i < t.rulecount → LimitGood (tracking_of (rule_at t i))
 good_limit t e i h =
     limit_of (tracking_of (rule_at t i)) (λ m q. (good_tracking (fresh_id t i) (rule_at t i) (good_rule t e i h) m q).2)
 
@@ -80,13 +79,13 @@ pub aged_no_record : (e : ℕ) (r : Rule) → aged e r no_record ≡ no_record
 unfolding aged
 aged_no_record e r = λ i. record { level0 = level (bucket_of r) i; level1 = level (bucket_of r) i; passed = 0; blocked = 0; places = places (tracking_of r) i }
   where
-    level : (b : Bucket) → drained b e 0 ≡ 0
-    level bucket.Unset = refl
-    level (bucket.Set b) = zero-sub (b.refill * e)
+    level : (b : Option Rate) → drained b e 0 ≡ 0
+    level None = refl
+    level (Some b) = zero-sub (b.refill * e)
 
-    places : (t : Tracking) → aged_places t e [] ≡ []
-    places tracking.Unset = refl
-    places (tracking.Set m) = refl
+    places : (t : Option Room) → aged_places t e [] ≡ []
+    places None = refl
+    places (Some m) = refl
 
 pub ticked_at :
     (t : Table) (reading : ℕ) (s : Records) (i : ℕ)
@@ -162,7 +161,7 @@ module _ (t : Table) (state : ℕ) (g : Turn) (d : ℕ) (x : RuleRecord) where
 -- without bucket and tracking, and by the default, the verdict does not look at the record
 pub at_plain :
     (t : Table) (state : ℕ) (g : Turn) (d : ℕ) (x y : RuleRecord)
-    → (d < default → (bucket_of (rule_at t d) ≡ bucket.Unset) × (tracking_of (rule_at t d) ≡ tracking.Unset))
+    → (d < default → (bucket_of (rule_at t d) ≡ None) × (tracking_of (rule_at t d) ≡ None))
     → (reacted_at t state g d x).verdict ≡ (reacted_at t state g d y).verdict
 at_plain t state g d x y p =
     by_less d default
@@ -182,7 +181,7 @@ unfolding record_good record_tests
 default_good r a x h = h
 
 pub at_good :
-    (t : Table) (state : ℕ) (g : Turn) (d : ℕ) (x : RuleRecord) → fits_kind g.quad ≡ true → fault_of t ≡ fault.Good → Decider t d
+    (t : Table) (state : ℕ) (g : Turn) (d : ℕ) (x : RuleRecord) → fits_kind g.quad ≡ true → fault_of t ≡ Ok tt → Decider t d
     → record_good (rule_of_record t d) x ≡ true → record_good (rule_of_record t d) (reacted_at t state g d x).after ≡ true
 at_good t state g d x v e w h =
     at_by t state g d x (λ y. record_good (rule_of_record t d) y.after ≡ true)
@@ -218,7 +217,7 @@ ticked_good t reading s h =
     ap (record_good r) (ticked_at t reading s i) ∙ aged_good (reading - s.last) r (record_at s i) (good_record t s h i m))
 
 pub acted_good :
-    (t : Table) (g : Turn) (d : ℕ) (s : Records) → fits_kind g.quad ≡ true → fault_of t ≡ fault.Good → Decider t d
+    (t : Table) (g : Turn) (d : ℕ) (s : Records) → fits_kind g.quad ≡ true → fault_of t ≡ Ok tt → Decider t d
     → records_good t s ≡ true → records_good t (acted t g d s) ≡ true
 unfolding acted
 acted_good t g d s v e w h =
@@ -267,7 +266,7 @@ fresh_by P a b zero (suc i) = b
 fresh_by P a b (suc n) zero = a
 fresh_by P a b (suc n) (suc i) = fresh_by P a b n i
 
-pub fresh_good : (t : Table) (reading : ℕ) → fault_of t ≡ fault.Good → records_good t (fresh_of reading) ≡ true
+pub fresh_good : (t : Table) (reading : ℕ) → fault_of t ≡ Ok tt → records_good t (fresh_of reading) ≡ true
 unfolding fresh_of
 fresh_good t reading e =
     all_good_lem t (fresh_of reading) (good_states t e).0
@@ -277,7 +276,7 @@ fresh_good t reading e =
 
 -- ---- no time
 
-few_rules : (t : Table) → fault_of t ≡ fault.Good → length (rules_of t) ≤ 65
+few_rules : (t : Table) → fault_of t ≡ Ok tt → length (rules_of t) ≤ 65
 few_rules t e = let h = good_count t e in omega (arith, length-take t.rulecount t.rules)
 
 -- a good table has at most 64 rules, so every record beyond the default's has none
@@ -308,13 +307,13 @@ ticked_none t reading s f h m =
     λ i. record { last = reading; state = s.state; rules = (ap (λ e. each (aged e) (rules_of t) s.rules) z ∙ rules_still t s f h) i }
 
 pub ticked_back :
-    (t : Table) (reading : ℕ) (s : Records) → fault_of t ≡ fault.Good → records_good t s ≡ true → reading ≤ s.last
+    (t : Table) (reading : ℕ) (s : Records) → fault_of t ≡ Ok tt → records_good t s ≡ true → reading ≤ s.last
     → ticked t reading s ≡ with_last s reading
 ticked_back t reading s e h m = ticked_none t reading s (few_rules t e) h m
 
 -- a second look at one reading changes nothing
 pub ticked_still :
-    (t : Table) (reading : ℕ) (s : Records) → fault_of t ≡ fault.Good → records_good t s ≡ true → s.last ≡ reading
+    (t : Table) (reading : ℕ) (s : Records) → fault_of t ≡ Ok tt → records_good t s ≡ true → s.last ≡ reading
     → ticked t reading s ≡ s
 ticked_still t reading s e h q = ticked_back t reading s e h (omega arith) ∙ ap (with_last s) (sym q)
 

@@ -3,13 +3,13 @@
 use Rattle.std.specs.Prelude.{ℕ, ◌≤◌, ◌≡◌, Bool, true, ◌&&◌, ◌||◌, List, [], get_or, ltb}
 use Rattle.numbers.specs.Lists.{all_below}
 use Rattle.table.specs.declared.Rule.{Rule}
-use Rattle.table.specs.declared.Bucket.TheVariants as bucket
 use Rattle.table.specs.declared.Table.{Table}
 use Rattle.table.specs.Table.{no_rule, rules_of, most_rules}
 use Rattle.places.specs.Good.{empty_from}
 use Rattle.verdicts.specs.Record.{RuleRecord, no_record, rule_of}
 use Rattle.verdicts.specs.Good.{levels_good, record_good}
 use Rattle.records.specs.Records.{Records, record_at, count_rows}
+use Rattle.std.specs.Prelude.{None}
 
 -- the rule of a record: none at the default's place, nor beyond the rule count
 abbrev pub rule_of_record : Table → ℕ → Rule
@@ -29,7 +29,7 @@ rules_good t xs = all_below (λ i. record_good (rule_of_record t i) (get_or xs i
 
 -- the slot at k has no level, where it is one from n on
 abbrev pub level_from : ℕ → List (List ℕ) → ℕ → Bool
-level_from n cs k = ltb k n || levels_good bucket.Unset (rule_of (get_or cs k []) [])
+level_from n cs k = ltb k n || levels_good None (rule_of (get_or cs k []) [])
 
 -- the slots from n on, which have no rule: no level, and places as in a fresh record
 abbrev pub slots_good : ℕ → List (List ℕ) → List (List (List ℕ)) → Bool

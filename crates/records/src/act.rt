@@ -3,6 +3,7 @@ ghost use Rattle.std.specs.Prelude.{◌≡◌, get_or};
 ghost use Rattle.table.specs.Words.{table_in};
 ghost use Rattle.records.specs.Records.{active_word, records_of};
 ghost use Rattle.records.specs.Step.{reaction, acted, MayAct};
+ghost use Rattle.verdicts.specs.Verdict.{verdict_number};
 
 use crate::*;
 use conversations::Turn;
@@ -14,7 +15,7 @@ impl RecordWords {
     // Steps 3 to 5 of the decider at d.
     pub fn act(&mut self, t: &TableWords, g: Turn, d: usize) -> Verdict
         requires { MayAct (table_in t.now) (get_or self.old.head active_word 0) d }
-        ensures verdict { result.number ≡ (reaction (table_in t.now) g d (records_of self.old)).verdict }
+        ensures verdict { verdict_number result ≡ (reaction (table_in t.now) g d (records_of self.old)).verdict }
         ensures records { records_of self.new ≡ acted (table_in t.now) g d (records_of self.old) }
     {
         if d < DEFAULT {

@@ -9,7 +9,7 @@ ghost use Rattle.records.specs.Good.{level_from, slots_good, rules_good, records
 use crate::*;
 use goodness::good_beyond;
 use table::words::{TableWords, rulecount, statecount};
-use table::{Bucket, RULES};
+use table::RULES;
 use verdicts::good::{good_levels, good_rule};
 use verdicts::{LEVEL0, LEVEL1};
 
@@ -52,6 +52,6 @@ impl RecordWords {
         let states = statecount(t) as u64;
         self.head[ACTIVE] < states
             && self.has_good_rules(t)
-            && good_levels(Bucket::Unset, &self.counts[DEFAULT])
+            && good_levels(None, &self.counts[DEFAULT])
     }
 }

@@ -3,7 +3,7 @@
 use Prim.Native.Nat.{ℕ, zero, suc, ◌+◌, ◌*◌, ◌<◌, ◌≤◌}
 use mathlib.Core.Path.{◌≡◌, refl, sym, ap, ◌∙◌}
 use mathlib.Core.Bool.{Bool, true, false, ◌||◌, true≢false}
-use mathlib.Core.List.{List, []}
+use mathlib.Core.List.{List}
 use native.Mathlib.Omega.{arith}
 use borrow.Author.Tests.{lt-ltb, le-ltb, ltb-true, ltb-false, eq-eqb, eqb-false}
 use lib.ListN.{length, get_or}
@@ -12,16 +12,13 @@ use Rattle.numbers.specs.Lists.{first, written, Wrote}
 use Rattle.numbers.proofs.Lists.{cond_both, first_before}
 use Rattle.packets.specs.declared.Ip.{Ip}
 use Rattle.packets.specs.declared.Ip.TheVariants as ip
-use Rattle.payloads.specs.declared.Segment.{Segment}
 use Rattle.payloads.specs.declared.Transport.{Transport}
 use Rattle.payloads.specs.declared.Transport.TheVariants as transport
 use Rattle.layers.specs.declared.Layers.{Layers}
 use Rattle.layers.specs.Seen.{Seen}
-use Rattle.layers.specs.declared.Shown.TheVariants as shown
 use Rattle.layers.specs.Layers.{too_short, shown_of}
 use Rattle.layers.proofs.Laws.{shows_is}
 use Rattle.table.specs.declared.Table.{Table}
-use Rattle.faults.specs.declared.Fault.TheVariants as fault
 use Rattle.table.specs.declared.Rule.{Rule}
 use Rattle.table.specs.Table.{rule_at, tracking_of}
 use Rattle.ranges.specs.Ranges.{rule_tests, all_good}
@@ -31,11 +28,8 @@ use Rattle.deciding.specs.Decider.{decider_of}
 use Rattle.deciding.specs.Best.{score_of, greatest, best_of}
 use Rattle.deciding.specs.declared.Best.{Best}
 use Rattle.deciding.proofs.Deciders.{decider_is}
-use Rattle.flags.specs.declared.Flags.{Flags}
 use Rattle.conversations.specs.declared.Turn.{Turn}
-use Rattle.places.specs.declared.Quad.{Quad}
 use Rattle.records.specs.Records.{Lent, Records, records_of, words_of, Shaped, ShapedRecords}
-use Rattle.flags.specs.Flags.{kind_of}
 use Rattle.records.specs.Step.{ticked, reaction, acted}
 use Rattle.places.specs.Good.{places_in, fits_kind}
 use Rattle.places.proofs.PlaceLaws.{quad_ipv4, quad_ipv6}
@@ -46,11 +40,11 @@ use Rattle.events.specs.Events.{event_bytes, mismatch_of}
 use Rattle.events.specs.declared.Event.{Event}
 use Rattle.events.specs.declared.Event.TheVariants as event
 use Rattle.steps.specs.declared.Answer.{Answer}
-use Rattle.steps.specs.declared.Report.{Report}
-use Rattle.steps.specs.declared.Report.TheVariants as report
-use Rattle.steps.specs.Steps.{quad_of, turn_in, turn_of, id_at, event_for, best_event, event_of, outcome_of, stepped, stepped_as}
+use Rattle.steps.specs.Steps.{quad_of, turn_in, turn_of, id_at, best_event, event_of, outcome_of, stepped, stepped_as}
 use Rattle.table.specs.declared.Room.{Room}
 use Rattle.std.specs.Prelude.{Option, Some, None}
+use Rattle.std.specs.Prelude.{Ok}
+use Rattle.verdicts.specs.Verdict.{verdict_number}
 
 -- ---- who decides
 
@@ -64,7 +58,7 @@ tracks r fresh h None e = omega arith
 tracks r fresh h (Some m) e = (good_tracking fresh r h m e).1
 
 pub few_places :
-    (t : Table) (state : ℕ) (x : Seen) (d : ℕ) → fault_of t ≡ fault.Good → d ≡ decider_of t state x → d < 64
+    (t : Table) (state : ℕ) (x : Seen) (d : ℕ) → fault_of t ≡ Ok tt → d ≡ decider_of t state x → d < 64
     → places_in (tracking_of (rule_at t d)) ≤ 8
 few_places t state x d e q h =
     let m : d < t.rulecount = rw q (decider_rule t state x (rw q at h)) in
@@ -163,20 +157,20 @@ neither_first : (a b : Bool) → (a || b) ≡ false → a ≡ false
 neither_first false b e = refl
 neither_first true b e = e
 
-pub shown_long : (s : List ℕ) (l : Layers) → shown_of s ≡ shown.Shows l → 14 ≤ length s
+pub shown_long : (s : List ℕ) (l : Layers) → shown_of s ≡ Ok l → 14 ≤ length s
 unfolding too_short
 shown_long s l e = ltb-false (length s) 14 (neither_first (ltb (length s) 14) _ (shows_is s l e).0)
 
 -- ---- good records
 
 -- the active state of good records is one of eight
-pub state_small : (t : Table) (w : Lent) → fault_of t ≡ fault.Good → records_good t (records_of w) ≡ true → get_or w.head 1 0 < 8
+pub state_small : (t : Table) (w : Lent) → fault_of t ≡ Ok tt → records_good t (records_of w) ≡ true → get_or w.head 1 0 < 8
 unfolding records_of
 state_small t w e h = omega (arith, good_state t (records_of w) h, (good_states t e).1)
 
 -- and so it is after the clock has ticked
 pub ticked_small :
-    (t : Table) (reading : ℕ) (w one : Lent) → fault_of t ≡ fault.Good → records_good t (records_of w) ≡ true
+    (t : Table) (reading : ℕ) (w one : Lent) → fault_of t ≡ Ok tt → records_good t (records_of w) ≡ true
     → records_of one ≡ ticked t reading (records_of w) → get_or one.head 1 0 < 8
 ticked_small t reading w one e h q = state_small t one e (rw q (ticked_good t reading (records_of w) h))
 
@@ -213,7 +207,7 @@ module _
         ∙ ap (event_of t (records_of w).state x (decider_of t (records_of w).state x)) step_verdict
 
     step_parts :
-        (a : Answer) (space after : List ℕ) → a.verdict.number ≡ v → Shaped two → a.rule ≡ id_at t d
+        (a : Answer) (space after : List ℕ) → (verdict_number a.verdict) ≡ v → Shaped two → a.rule ≡ id_at t d
         → Wrote (event_of t (records_of w).state x d v) space after a.length
         → (stepped a two after ≡ stepped_as (outcome_of t (records_of w) reading x) space)
         × (records_of two ≡ (outcome_of t (records_of w) reading x).records)
@@ -233,7 +227,7 @@ pub step_is :
     (t : Table) (reading : ℕ) (x : Seen) (w one two : Lent) (g : Turn) (d v : ℕ) (a : Answer) (space after : List ℕ)
     → d ≡ decider_of t (get_or w.head 1 0) x → g ≡ turn_of x
     → records_of one ≡ ticked t reading (records_of w) → v ≡ (reaction t g d (records_of one)).verdict
-    → records_of two ≡ acted t g d (records_of one) → a.verdict.number ≡ v → Shaped two → a.rule ≡ id_at t d
+    → records_of two ≡ acted t g d (records_of one) → (verdict_number a.verdict) ≡ v → Shaped two → a.rule ≡ id_at t d
     → Wrote (event_of t (get_or w.head 1 0) x d v) space after a.length
     → (stepped a two after ≡ stepped_as (outcome_of t (records_of w) reading x) space)
     × (records_of two ≡ (outcome_of t (records_of w) reading x).records)
@@ -245,7 +239,7 @@ step_is t reading x w one two g d v a space after decides looks ticks says acts 
 
 -- good records stay good
 pub outcome_good :
-    (t : Table) (s : Records) (reading : ℕ) (x : Seen) → fault_of t ≡ fault.Good → records_good t s ≡ true
+    (t : Table) (s : Records) (reading : ℕ) (x : Seen) → fault_of t ≡ Ok tt → records_good t s ≡ true
     → records_good t (outcome_of t s reading x).records ≡ true
 unfolding outcome_of
 outcome_good t s reading x e h =

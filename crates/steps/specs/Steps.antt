@@ -1,27 +1,25 @@
 -- One frame judged, for a good table and a good record: document 01, 'One frame, in this order' and 'Verdicts, events, refusals'.
 -- Assumes nothing.
-use Rattle.std.specs.Prelude.{ℕ, ◌+◌, ◌*◌, ◌≤◌, ◌≡◌, List, [], Bool, true, cond, ◌||◌, length, ltb, eqb}
+use Rattle.std.specs.Prelude.{ℕ, ◌+◌, ◌*◌, ◌≤◌, ◌≡◌, List, [], Bool, true, cond, ◌||◌, length, ltb, eqb, None, Ok}
 use Rattle.numbers.specs.Lists.{written}
 use Rattle.packets.specs.declared.Ip.{Ip}
 use Rattle.packets.specs.declared.Ip.TheVariants as ip
 use Rattle.payloads.specs.declared.Transport.{Transport}
 use Rattle.payloads.specs.declared.Transport.TheVariants as transport
-use Rattle.layers.specs.declared.Shown.TheVariants as shown
 use Rattle.layers.specs.Layers.{shown_of}
 use Rattle.layers.specs.declared.Layers.{Layers}
 use Rattle.layers.specs.Seen.{Seen, seen}
 use Rattle.table.specs.declared.Table.{Table}
-use Rattle.faults.specs.declared.Fault.TheVariants as fault
 use Rattle.table.specs.Table.{rule_at}
 use Rattle.faults.specs.Faults.{fault_of}
 use Rattle.deciding.specs.Decider.{decider_of}
 use Rattle.deciding.specs.Best.{best_of}
 use Rattle.conversations.specs.declared.Turn.{Turn}
-use Rattle.flags.specs.declared.Flags.TheVariants as flags
 use Rattle.records.specs.Records.{Lent, Records, default, records_of, words_of}
 use Rattle.places.specs.declared.Quad.{Quad}
 use Rattle.places.specs.Places.{no_quad, ipv4_quad, ipv6_quad}
 use Rattle.flags.specs.Flags.{kind_of}
+use Rattle.verdicts.specs.Verdict.{verdict_number}
 use Rattle.verdicts.specs.Rule.{over_rate, no_place_free, blocked_by_default, wrong_flags, no_conversation, not_in_state}
 use Rattle.records.specs.Step.{ticked, reaction, acted}
 use Rattle.records.specs.Good.{records_good}
@@ -51,7 +49,7 @@ seen_of a l = seen (is_second a.socket) a.bytes l
 
 -- what a rule looks at: the socket, addresses, ports and flags of a TCP segment; no more than the socket where there is none
 abbrev pub no_turn : Bool → Turn
-no_turn second = record { quad = no_quad second; flags = flags.Wrong }
+no_turn second = record { quad = no_quad second; flags = None }
 
 -- the conversation between the addresses of a packet of either kind
 abbrev pub quad_of : Bool → Ip → ℕ → Quad
@@ -132,9 +130,9 @@ outcome_of t s reading x =
 
 -- what a step asks: a good table, a good record, the layers that the frame shows, and space for an event
 pub record Ready (t : Table) (w : Lent) (x : Seen) (space : List ℕ) : Type 0 where
-  pub table : fault_of t ≡ fault.Good
+  pub table : fault_of t ≡ Ok tt
   pub records : records_good t (records_of w) ≡ true
-  pub shows : shown_of x.bytes ≡ shown.Shows x.layers
+  pub shows : shown_of x.bytes ≡ Ok x.layers
   pub room : event_room ≤ length space
 
 -- what a judged frame leaves: "verdict, the deciding rule's id and event length", the words and the event space
@@ -147,7 +145,7 @@ pub record Stepped : Type 0 where
 
 -- of an answer, with the words and the space as the call leaves them; and of an outcome
 abbrev pub stepped : Answer → Lent → List ℕ → Stepped
-stepped a w space = record { verdict = a.verdict.number; rule = a.rule; length = a.length; words = w; space = space }
+stepped a w space = record { verdict = verdict_number a.verdict; rule = a.rule; length = a.length; words = w; space = space }
 
 abbrev pub stepped_as : Outcome → List ℕ → Stepped
 stepped_as o space = record {

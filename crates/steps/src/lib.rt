@@ -10,13 +10,14 @@ ghost use Rattle.table.specs.Table.{most_rules};
 ghost use Rattle.table.specs.Words.{table_in};
 ghost use Rattle.deciding.specs.Best.{best_of};
 ghost use Rattle.records.specs.Records.{records_of};
+ghost use Rattle.verdicts.specs.Verdict.{verdict_number};
 ghost use Rattle.events.specs.Events.{event_room};
-ghost use Rattle.steps.specs.Steps.{no_turn, quad_of, turn_in, id_at, wrong_step, event_for, best_event, event_of, outcome_of, Ready, stepped, stepped_as};
+ghost use Rattle.steps.specs.Steps.{no_turn, quad_of, turn_in, id_at, event_for, best_event, event_of, outcome_of, Ready, stepped, stepped_as};
 
 use conversations::Turn;
 use deciding::{Best, decide};
 use events::{Event, mismatch, write};
-use flags::{Flags, flag_kind};
+use flags::flag_kind;
 use layers::Layers;
 use packets::Ip;
 use payloads::Transport;
@@ -53,7 +54,7 @@ fn no_turn(second: bool) -> Turn
 {
     Turn {
         quad: no_quad(second),
-        flags: Flags::Wrong,
+        flags: None,
     }
 }
 
@@ -96,32 +97,20 @@ fn id_at(t: &TableWords, d: usize) -> u16
     }
 }
 
-// The verdicts of tracking that say which step was wrong.
-fn wrong_step(v: Verdict) -> bool
-    ensures { result ≡ wrong_step v.number }
-{
-    let n = v.number;
-    (n == Verdict::WRONG_FLAGS) | ((n == Verdict::NO_CONVERSATION) | (n == Verdict::NOT_IN_STATE))
-}
-
 // Verdicts 0, 1 and 2 have no event.
 #[tactic(auto, unfolding(crate::specs::Steps::event_for))]
 fn event_for(v: Verdict) -> Report
-    ensures { result ≡ event_for v.number }
+    ensures { result ≡ event_for (verdict_number v) }
 {
-    if v.number == Verdict::OVER_RATE {
-        return Report::Own(Event::Ratelimit);
+    match v {
+        Verdict::OverRate => Report::Own(Event::Ratelimit),
+        Verdict::WrongFlags | Verdict::NoConversation | Verdict::NotInState => {
+            Report::Own(Event::StateTransition)
+        }
+        Verdict::NoPlaceFree => Report::Own(Event::MaxConnections),
+        Verdict::BlockedByDefault => Report::BestFit,
+        Verdict::Allowed | Verdict::AllowedByDefault | Verdict::BlockedByRule => Report::Nothing,
     }
-    if wrong_step(v) {
-        return Report::Own(Event::StateTransition);
-    }
-    if v.number == Verdict::NO_PLACE_FREE {
-        return Report::Own(Event::MaxConnections);
-    }
-    if v.number == Verdict::BLOCKED_BY_DEFAULT {
-        return Report::BestFit;
-    }
-    Report::Nothing
 }
 
 // The mismatch event of the best fit. With no active rule: link and 65,535. The socket is for the promise alone, here and below: no event shows it.
@@ -166,7 +155,7 @@ fn write_event(
     requires inside { Inside frame.now l }
     requires long { least ≤ length frame.now }
     requires room { event_room ≤ length space.old }
-    ensures { Wrote (event_of (table_in t.now) state (seen second frame.now l) d v.number) space.old space.new result }
+    ensures { Wrote (event_of (table_in t.now) state (seen second frame.now l) d (verdict_number v)) space.old space.new result }
 {
     match event_for(v) {
         Report::Nothing => 0,

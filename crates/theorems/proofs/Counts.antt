@@ -9,7 +9,6 @@ use Rattle.numbers.specs.Lists.{each, ends, said}
 use Rattle.layers.specs.declared.Layers.{Layers}
 use Rattle.table.specs.declared.Table.{Table}
 use Rattle.table.specs.declared.Rule.{Rule}
-use Rattle.faults.specs.declared.Fault.TheVariants as fault
 use Rattle.table.specs.Table.{rules_of}
 use Rattle.faults.specs.Faults.{fault_of}
 use Rattle.deciding.specs.Decider.{decider_of}
@@ -28,6 +27,7 @@ use Rattle.theorems.specs.Run.{Item, arrives, switches, go, tell, Good}
 use Rattle.theorems.specs.Statements.{sum_of, counts_of, total, NoneStopped, is_answer, judged_in, CountsAdd}
 use Rattle.theorems.proofs.Calls.{outcome, decider_most, outcome_back, judge_by, start_by, switch_by}
 use Rattle.theorems.proofs.Kept.{go_kept, good_kept}
+use Rattle.std.specs.Prelude.{Ok}
 
 -- ---- sums
 
@@ -113,7 +113,7 @@ stays : (w : Lent) → NoneStopped (records_of w) → Step w w 0
 stays w n = record { adds = omega arith; before = n }
 
 outcome_step :
-    (t : Table) (w : Lent) (a : Arrival) (l : Layers) → fault_of t ≡ fault.Good → Good t w
+    (t : Table) (w : Lent) (a : Arrival) (l : Layers) → fault_of t ≡ Ok tt → Good t w
     → NoneStopped (records_of (words_of (outcome t (records_of w) a l).records))
     → Step w (words_of (outcome t (records_of w) a l).records) 1
 unfolding outcome_of

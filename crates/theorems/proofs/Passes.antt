@@ -13,7 +13,6 @@ use Rattle.layers.specs.Seen.{Seen}
 use Rattle.table.specs.declared.Action.{Action}
 use Rattle.table.specs.declared.Rule.{Rule}
 use Rattle.table.specs.declared.Table.{Table}
-use Rattle.faults.specs.declared.Fault.TheVariants as fault
 use Rattle.table.specs.declared.Room.{Room}
 use Rattle.table.specs.Table.{rule_at, state_at, is_allow, bucket_of, tracking_of}
 use Rattle.faults.specs.Faults.{fault_of}
@@ -24,8 +23,6 @@ use Rattle.deciding.proofs.Deciders.{decider_is, decider_default, decider_small}
 use Rattle.places.specs.declared.Quad.{Quad}
 use Rattle.flags.specs.declared.FlagKind.{FlagKind}
 use Rattle.flags.specs.declared.FlagKind.TheVariants as kind
-use Rattle.flags.specs.declared.Flags.{Flags}
-use Rattle.flags.specs.declared.Flags.TheVariants as flags
 use Rattle.flags.specs.declared.Next.{Next}
 use Rattle.flags.specs.declared.Next.TheVariants as next
 use Rattle.conversations.specs.declared.Turn.{Turn}
@@ -71,8 +68,7 @@ use Rattle.theorems.specs.Passes.{
   PassesExactly,
 }
 use Rattle.theorems.proofs.Calls.{outcome, judge_two}
-use Rattle.std.specs.Prelude.{Option}
-use Rattle.std.specs.Prelude.{Some, None}
+use Rattle.std.specs.Prelude.{Option, Some, None, Ok}
 
 -- ---- the decider is the first match, or the default where there is none
 
@@ -169,9 +165,9 @@ step_tells m q ps k =
     let i : ℕ = held_at q ps in
     tells_either (ltb i (length ps)) _ _ _ _ (moved_tells q ps i (next_of (phase_of (get_or ps i free).state) k)) (begun_tells m q ps k)
 
-flags_tell : (m : Room) (q : Quad) (ps : List Place) (f : Flags) → Tells (flags_hold m q ps f) (says (tracked_in m q ps f))
-flags_tell m q ps flags.Wrong = omega arith
-flags_tell m q ps (flags.Kind k) = step_tells m q ps k
+flags_tell : (m : Room) (q : Quad) (ps : List Place) (f : Option FlagKind) → Tells (flags_hold m q ps f) (says (tracked_in m q ps f))
+flags_tell m q ps None = omega arith
+flags_tell m q ps (Some k) = step_tells m q ps k
 
 tracked_tells : (k : Option Room) (g : Turn) (ps : List Place) → Tells (tracking_holds k g ps) (says (tracked k g ps))
 tracked_tells None g ps = refl
@@ -278,7 +274,7 @@ module _ (t : Table) (s : Records) (reading : ℕ) (x : Seen) (few : t.rulecount
       })
 
 outcome_exactly :
-    (t : Table) (s : Records) (reading : ℕ) (x : Seen) → fault_of t ≡ fault.Good → Exactly t s reading x (outcome_of t s reading x).verdict
+    (t : Table) (s : Records) (reading : ℕ) (x : Seen) → fault_of t ≡ Ok tt → Exactly t s reading x (outcome_of t s reading x).verdict
 outcome_exactly t s reading x f =
     let few = good_count t f in
     subst (Exactly t s reading x) (sym (outcome_verdict t s reading x few))

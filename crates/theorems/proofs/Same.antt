@@ -2,6 +2,8 @@
 use Prim.Native.Nat.{ℕ}
 use mathlib.Core.Path.{◌≡◌, refl, sym, ap, ◌∙◌}
 use mathlib.Core.List.{List, [], ◌∷◌}
+use mathlib.Core.Bool.{cond}
+use lib.Dec.{eqb}
 use lib.ListN.{get_or}
 use Rattle.std.specs.Prelude.{⊤, Result, Ok, Err}
 use Rattle.places.specs.Places.{Place, places_of, places_words, ShapedPlaces}
@@ -11,6 +13,7 @@ use Rattle.records.specs.Records.{Lent, words_of}
 use Rattle.verdicts.specs.Record.{RuleRecord, count_size, rule_of, count_row, place_rows}
 use Rattle.verdicts.specs.Rule.{Reacted}
 use Rattle.verdicts.specs.declared.verdict.Verdict.{Verdict}
+use Rattle.verdicts.specs.declared.verdict.Verdict.TheVariants as verdict
 use Rattle.numbers.proofs.Elements.{row_back}
 use Rattle.records.proofs.WordLaws.{words_back}
 use Rattle.steps.specs.Steps.{Stepped, stepped, stepped_as}
@@ -18,9 +21,83 @@ use Rattle.steps.specs.declared.Answer.{Answer}
 use Rattle.firewall.specs.Firewall.{Refused, refused_as, Said, refused, answered, After, says, AfterCall, leaves, said_done, said_judged}
 use Rattle.firewall.specs.declared.refusal.Refusal.{Refusal}
 use Rattle.firewall.specs.declared.refusal.Refusal.TheVariants as refusal
+use Rattle.faults.specs.declared.AtFault.{AtFault}
+use Rattle.faults.specs.declared.AtFault.TheVariants as at
+use Rattle.ranges.specs.declared.setting_number.SettingNumber.{SettingNumber}
+use Rattle.ranges.specs.declared.setting_number.SettingNumber.TheVariants as setting
+use Rattle.ranges.specs.Numbers.{setting_number}
 use Rattle.theorems.specs.Unique.{OneOutcome, RowOf, Unique}
+use Rattle.verdicts.specs.Verdict.{verdict_number}
 
 -- ---- what is said tells the answer
+
+-- the settings in the order of their numbers; 27 is none of them
+settings : List SettingNumber
+settings =
+    setting.Id
+    ∷ (setting.DestinationMac
+    ∷ (setting.SourceMac
+    ∷ (setting.VlanId
+    ∷ (setting.Priority
+    ∷ (setting.EtherType
+    ∷ (setting.Ipv4Source
+    ∷ (setting.Ipv4Destination
+    ∷ (setting.Ipv4Protocol
+    ∷ (setting.Kind
+    ∷ (setting.SourcePorts
+    ∷ (setting.DestinationPorts
+    ∷ (setting.Service
+    ∷ (setting.Method
+    ∷ (setting.ProtocolVersion
+    ∷ (setting.MessageType
+    ∷ (setting.ReturnCode
+    ∷ (setting.BucketSize
+    ∷ (setting.Refill
+    ∷ (setting.Places
+    ∷ (setting.IdleLimit
+    ∷ (setting.Ipv6Source
+    ∷ (setting.Ipv6Destination
+    ∷ (setting.Ipv6Protocol
+    ∷ (setting.Socket
+    ∷ (setting.Number0
+    ∷ (setting.Number1
+    ∷ (setting.Id
+    ∷ (setting.Action ∷ []))))))))))))))))))))))))))))
+
+-- the fault of a place and the number of a setting, 255 for none
+fault_at : ℕ → ℕ → AtFault
+fault_at place n = cond (eqb n 255) at.StatesOrRuleCount (at.Rule place (get_or settings n setting.Id))
+
+fault_back : (place : ℕ) (s : SettingNumber) → fault_at place (setting_number s) ≡ at.Rule place s
+unfolding fault_at settings
+fault_back place setting.Id = refl
+fault_back place setting.DestinationMac = refl
+fault_back place setting.SourceMac = refl
+fault_back place setting.VlanId = refl
+fault_back place setting.Priority = refl
+fault_back place setting.EtherType = refl
+fault_back place setting.Ipv4Source = refl
+fault_back place setting.Ipv4Destination = refl
+fault_back place setting.Ipv4Protocol = refl
+fault_back place setting.Kind = refl
+fault_back place setting.SourcePorts = refl
+fault_back place setting.DestinationPorts = refl
+fault_back place setting.Service = refl
+fault_back place setting.Method = refl
+fault_back place setting.ProtocolVersion = refl
+fault_back place setting.MessageType = refl
+fault_back place setting.ReturnCode = refl
+fault_back place setting.BucketSize = refl
+fault_back place setting.Refill = refl
+fault_back place setting.Places = refl
+fault_back place setting.IdleLimit = refl
+fault_back place setting.Ipv6Source = refl
+fault_back place setting.Ipv6Destination = refl
+fault_back place setting.Ipv6Protocol = refl
+fault_back place setting.Socket = refl
+fault_back place setting.Number0 = refl
+fault_back place setting.Number1 = refl
+fault_back place setting.Action = refl
 
 -- the refusal of a number and the two that 4 carries
 refusal_of : Refused → Refusal
@@ -29,16 +106,16 @@ refusal_of x =
     (refusal.NoSuchSocket
     ∷ (refusal.TooShort
     ∷ (refusal.TooLong
-    ∷ (refusal.NoSpace
-    ∷ (refusal.BadTable (record { place = x.place; setting = record { number = x.setting } }) ∷ (refusal.BadRecord ∷ (refusal.NoSuchState ∷ [])))))))
+    ∷ (refusal.NoSpace ∷ (refusal.BadTable (fault_at x.place x.setting) ∷ (refusal.BadRecord ∷ (refusal.NoSuchState ∷ [])))))))
     x.number refusal.NoSuchSocket
 
 refusal_back : (r : Refusal) → refusal_of (refused_as r) ≡ r
-unfolding refusal_of
+unfolding refusal_of fault_at
 refusal_back refusal.TooShort = refl
 refusal_back refusal.TooLong = refl
 refusal_back refusal.NoSpace = refl
-refusal_back (refusal.BadTable f) = refl
+refusal_back (refusal.BadTable (at.Rule place s)) = ap refusal.BadTable (fault_back place s)
+refusal_back (refusal.BadTable at.StatesOrRuleCount) = refl
 refusal_back refusal.BadRecord = refl
 refusal_back refusal.NoSuchState = refl
 refusal_back refusal.NoSuchSocket = refl
@@ -48,14 +125,41 @@ refusal_same r q e =
     let same : refused_as r ≡ refused_as q = cc in
     sym (refusal_back r) ∙ ap refusal_of same ∙ refusal_back q
 
+-- the verdict of a number
+verdict_of : ℕ → Verdict
+verdict_of n =
+    cond (eqb n 0) verdict.Allowed
+    (cond (eqb n 1) verdict.AllowedByDefault
+    (cond (eqb n 2) verdict.BlockedByRule
+    (cond (eqb n 3) verdict.OverRate
+    (cond (eqb n 5) verdict.NoPlaceFree
+    (cond (eqb n 6) verdict.BlockedByDefault
+    (cond (eqb n 40) verdict.WrongFlags
+    (cond (eqb n 41) verdict.NoConversation verdict.NotInState)))))))
+
+verdict_back : (v : Verdict) → verdict_of (verdict_number v) ≡ v
+unfolding verdict_of
+verdict_back verdict.Allowed = refl
+verdict_back verdict.AllowedByDefault = refl
+verdict_back verdict.BlockedByRule = refl
+verdict_back verdict.OverRate = refl
+verdict_back verdict.NoPlaceFree = refl
+verdict_back verdict.BlockedByDefault = refl
+verdict_back verdict.WrongFlags = refl
+verdict_back verdict.NoConversation = refl
+verdict_back verdict.NotInState = refl
+
+verdict_same : (r q : Verdict) → verdict_number r ≡ verdict_number q → r ≡ q
+verdict_same r q e = sym (verdict_back r) ∙ ap verdict_of e ∙ verdict_back q
+
 answer_same :
-    (a b : Answer) → answered a.verdict.number a.rule a.length ≡ answered b.verdict.number b.rule b.length
+    (a b : Answer) → answered (verdict_number a.verdict) a.rule a.length ≡ answered (verdict_number b.verdict) b.rule b.length
     → a ≡ b
 answer_same a b e =
-    let v : a.verdict.number ≡ b.verdict.number = cc in
+    let v : verdict_number a.verdict ≡ verdict_number b.verdict = cc in
     let r : a.rule ≡ b.rule = cc in
     let n : a.length ≡ b.length = cc in
-    λ i. record { verdict = record { number = v i }; rule = r i; length = n i }
+    λ i. record { verdict = verdict_same a.verdict b.verdict v i; rule = r i; length = n i }
 
 done_same : (r q : Result ⊤ Refusal) → said_done r ≡ said_done q → r ≡ q
 done_same (Err r) (Err q) e = ap Err (refusal_same r q e)
@@ -85,9 +189,6 @@ module _ {R : Type 0} (say : R → Said) (same : (r q : R) → say r ≡ say q �
   )
 
 -- ---- and what a step leaves
-
-verdict_same : (r q : Verdict) → r.number ≡ q.number → r ≡ q
-verdict_same r q e = λ i. record { number = e i }
 
 stepped_same :
     (z : Stepped) (r q : Answer) (v u : Lent) (x y : List ℕ) → stepped r v x ≡ z → stepped q u y ≡ z → (r ≡ q) × (v ≡ u) × (x ≡ y)

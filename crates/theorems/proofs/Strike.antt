@@ -14,10 +14,7 @@ use Rattle.layers.specs.Layers.{refusal_number, shown_of}
 use Rattle.layers.specs.Seen.{Seen}
 use Rattle.layers.specs.declared.Layers.{Layers}
 use Rattle.layers.specs.declared.FrameRefusal.{FrameRefusal}
-use Rattle.layers.specs.declared.Shown.{Shown}
-use Rattle.layers.specs.declared.Shown.TheVariants as shown
 use Rattle.table.specs.declared.Table.{Table}
-use Rattle.faults.specs.declared.Fault.TheVariants as fault
 use Rattle.faults.specs.Faults.{fault_of}
 use Rattle.deciding.specs.Decider.{decider_of}
 use Rattle.verdicts.specs.Rule.{aged}
@@ -44,6 +41,7 @@ use Rattle.theorems.proofs.Calls.{
   good_or_refused,
 }
 use Rattle.theorems.proofs.Kept.{go_kept}
+use Rattle.std.specs.Prelude.{Result, Ok, Err}
 
 -- ---- a frame is judged, or turned away by one refusal from all good records
 
@@ -54,11 +52,11 @@ pub record Judged (a : Arrival) (space : List ℕ) : Type 0 where
 pub record Turned (a : Arrival) (space : List ℕ) : Type 0 where
   pub never : Unjudged a space
   pub why : Refused
-  pub all : (t : Table) (w : Lent) → fault_of t ≡ fault.Good → records_good t (records_of w) ≡ true → judge_of t w a space ≡ says (refused why) w space
+  pub all : (t : Table) (w : Lent) → fault_of t ≡ Ok tt → records_good t (records_of w) ≡ true → judge_of t w a space ≡ says (refused why) w space
 
-abbrev is_refused : Shown → Bool
-is_refused (shown.Refused f) = true
-is_refused (shown.Shows l) = false
+abbrev is_refused : Result Layers FrameRefusal → Bool
+is_refused (Err f) = true
+is_refused (Ok l) = false
 
 pub judged_or_turned : (a : Arrival) (space : List ℕ) → Judged a space ⊎ Turned a space
 judged_or_turned a space =
@@ -66,13 +64,13 @@ judged_or_turned a space =
     (λ n. inr (record { never = λ k x. let h = x.socket in omega arith; why = plain 9; all = λ t w e h. judge_socket t w a space e h n }))
     (λ n. frame n (shown_of a.bytes) refl)
   where
-    clash : (f : FrameRefusal) (l : Layers) → shown.Refused f ≡ shown.Shows l → ⊥
+    clash : (f : FrameRefusal) (l : Layers) → Err f ≡ Ok l → ⊥
     clash f l e = true≢false (ap is_refused e)
 
-    frame : a.socket ≤ 1 → (x : Shown) → shown_of a.bytes ≡ x → Judged a space ⊎ Turned a space
-    frame n (shown.Refused f) q =
+    frame : a.socket ≤ 1 → (x : Result Layers FrameRefusal) → shown_of a.bytes ≡ x → Judged a space ⊎ Turned a space
+    frame n (Err f) q =
         inr (record { never = λ k x. clash f k (sym q ∙ x.shows); why = plain (refusal_number f); all = λ t w e h. judge_good t w a space e h n ∙ ap (after_frame t w a space) q })
-    frame n (shown.Shows l) q =
+    frame n (Ok l) q =
         by_less (length space) event_room
         (λ m.
         inr (record {
@@ -138,7 +136,7 @@ module _ (t : Table) (w : Lent) (a : Arrival) (space : List ℕ) (x : After) (q 
 
 -- what a judged frame finds
 pub record Fine (t : Table) (s : Records) : Type 0 where
-  pub table : fault_of t ≡ fault.Good
+  pub table : fault_of t ≡ Ok tt
   pub shaped : ShapedRecords s
   pub good : records_good t s ≡ true
 
@@ -171,7 +169,7 @@ record Runs (t : Table) (B : ℕ → Records → Records → Type 0) (n : ℕ) (
   left : Good t v
   both : B n (records_of w) (records_of v)
 
-module _ (t : Table) (P : Bool → Arrival → List ℕ → Type 0) (B : ℕ → Records → Records → Type 0) (f : Strikes t P B) (e : fault_of t ≡ fault.Good) where
+module _ (t : Table) (P : Bool → Arrival → List ℕ → Type 0) (B : ℕ → Records → Records → Type 0) (f : Strikes t P B) (e : fault_of t ≡ Ok tt) where
   run_later : (n m : ℕ) (w v : Lent) → n ≤ m → Runs t B n w v → Runs t B m w v
   run_later n m w v h r = record { whole = r.whole; left = r.left; both = f.later n m (records_of w) (records_of v) h r.both }
 

@@ -8,7 +8,6 @@ use lib.ListN.{length}
 use Rattle.numbers.proofs.Lists.{set_two}
 use Rattle.layers.specs.declared.Layers.{Layers}
 use Rattle.table.specs.declared.Table.{Table}
-use Rattle.faults.specs.declared.Fault.TheVariants as fault
 use Rattle.faults.specs.Faults.{fault_of}
 use Rattle.deciding.specs.Decider.{decider_of}
 use Rattle.conversations.specs.declared.Turn.{Turn}
@@ -38,6 +37,7 @@ use Rattle.theorems.proofs.Calls.{
   good_or_refused,
 }
 use Rattle.theorems.proofs.Kept.{go_shaped}
+use Rattle.std.specs.Prelude.{Ok}
 
 -- ---- two deciders
 
@@ -62,7 +62,7 @@ reaction_alone t g h d k ne s = ap (reacted_at t s.state g d) (acted_other t h k
 
 -- a second frame at the same reading is only what its decider does
 second_reach :
-    (t : Table) (s : Records) (a b : Arrival) (l m : Layers) → fault_of t ≡ fault.Good → records_good t s ≡ true
+    (t : Table) (s : Records) (a b : Arrival) (l m : Layers) → fault_of t ≡ Ok tt → records_good t s ≡ true
     → a.reading ≡ b.reading
     → outcome t (outcome t s a l).records b m ≡ reach t s.state (seen_of b m) (outcome t s a l).records
 second_reach t s a b l m e h q =
@@ -72,7 +72,7 @@ second_reach t s a b l m e h q =
     (ticked_still t b.reading z e (outcome_good t s a l e h) (outcome_last t s a l ∙ q))
 
 module _ (t : Table) (s : Records) (a b : Arrival) (l m : Layers)
-    (e : fault_of t ≡ fault.Good) (h : records_good t s ≡ true) (q : a.reading ≡ b.reading)
+    (e : fault_of t ≡ Ok tt) (h : records_good t s ≡ true) (q : a.reading ≡ b.reading)
     (ne : decider_of t s.state (seen_of a l) ≡ decider_of t s.state (seen_of b m) → ⊥) where
   outcome_comm : (outcome t (outcome t s b m).records a l).records ≡ (outcome t (outcome t s a l).records b m).records
   outcome_comm =
@@ -97,7 +97,7 @@ module _ (t : Table) (s : Records) (a b : Arrival) (l m : Layers)
 
 -- a frame's answer does not see what another decider did at the same reading
 outcome_alone :
-    (t : Table) (s : Records) (a b : Arrival) (l m : Layers) (space : List ℕ) → fault_of t ≡ fault.Good → records_good t s ≡ true
+    (t : Table) (s : Records) (a b : Arrival) (l m : Layers) (space : List ℕ) → fault_of t ≡ Ok tt → records_good t s ≡ true
     → a.reading ≡ b.reading
     → (decider_of t s.state (seen_of b m) ≡ decider_of t s.state (seen_of a l) → ⊥)
     → answer (outcome t (outcome t s a l).records b m) space ≡ answer (outcome t s b m) space
@@ -132,7 +132,7 @@ outcome_alone t s a b l m space e h q ne =
 
 -- a judged call after a judged call
 judge_after :
-    (t : Table) (w : Lent) (a b : Arrival) (space room : List ℕ) (l m : Layers) → fault_of t ≡ fault.Good → Good t w
+    (t : Table) (w : Lent) (a b : Arrival) (space room : List ℕ) (l m : Layers) → fault_of t ≡ Ok tt → Good t w
     → Judges a space l → Judges b room m
     → judge_of t (go t w (arrives a space)) b room ≡ judged_as (outcome t (outcome t (records_of w) a l).records b m) room
 unfolding go
@@ -145,7 +145,7 @@ module _ (t : Table) (w : Lent) (a b : Arrival) (space room : List ℕ) (l m : L
     (q : a.reading ≡ b.reading)
     (ne : decider_of t (records_of w).state (seen_of a l) ≡ decider_of t (records_of w).state (seen_of b m) → ⊥) where
   good_commute :
-      fault_of t ≡ fault.Good → Good t w
+      fault_of t ≡ Ok tt → Good t w
       → go t (go t w (arrives b room)) (arrives a space) ≡ go t (go t w (arrives a space)) (arrives b room)
   unfolding go
   good_commute e g =
@@ -154,7 +154,7 @@ module _ (t : Table) (w : Lent) (a b : Arrival) (space room : List ℕ) (l m : L
       ∙ sym (ap (λ x. x.words) (judge_after t w a b space room l m e g i j))
 
   -- the second of two frames is answered as if it were the first
-  good_alone : fault_of t ≡ fault.Good → Good t w → tell t (go t w (arrives a space)) (arrives b room) ≡ tell t w (arrives b room)
+  good_alone : fault_of t ≡ Ok tt → Good t w → tell t (go t w (arrives a space)) (arrives b room) ≡ tell t w (arrives b room)
   unfolding tell
   good_alone e g =
       ap told (judge_after t w a b space room l m e g i j)

@@ -5,7 +5,6 @@ use Rattle.numbers.specs.Lists.{ends, said}
 use Rattle.layers.specs.Layers.{shown_of}
 use Rattle.layers.specs.Seen.{seen}
 use Rattle.layers.specs.declared.Layers.{Layers}
-use Rattle.layers.specs.declared.Shown.TheVariants as shown
 use Rattle.table.specs.declared.Table.{Table}
 use Rattle.table.specs.Table.{rule_at, bucket_of, tracking_of}
 use Rattle.deciding.specs.Decider.{decider_of}
@@ -15,6 +14,7 @@ use Rattle.firewall.specs.Firewall.{After, judge_of}
 use Rattle.theorems.specs.Run.{Item, arrives, switches, go, tell}
 use Rattle.theorems.specs.Statements.{is_answer}
 use Rattle.std.specs.Prelude.{None}
+use Rattle.std.specs.Prelude.{Ok}
 
 -- words that differ in the last reading alone
 pub record ButLast (v w : Lent) : Type 0 where
@@ -42,7 +42,7 @@ Plain t d = d < default → (bucket_of (rule_at t d) ≡ None) × (tracking_of (
 -- a frame that such a decider decides is answered alike at every reading
 abbrev pub ClockFree : Type 0
 ClockFree =
-    (t : Table) (w : Lent) (socket : ℕ) (bytes space : List ℕ) (l : Layers) → shown_of bytes ≡ shown.Shows l
+    (t : Table) (w : Lent) (socket : ℕ) (bytes space : List ℕ) (l : Layers) → shown_of bytes ≡ Ok l
     → Plain t (decider_of t (records_of w).state (seen (is_second socket) bytes l))
     → (n m : ℕ)
     → ((judge_of t w (arrival n socket bytes) space).said ≡ (judge_of t w (arrival m socket bytes) space).said)

@@ -5,7 +5,6 @@ use Rattle.std.specs.Prelude.{ℕ, ◌<◌, ◌↔◌, ◌≡◌, Bool, true, fa
 use Rattle.layers.specs.Layers.{shown_of}
 use Rattle.layers.specs.Seen.{Seen}
 use Rattle.layers.specs.declared.Layers.{Layers}
-use Rattle.layers.specs.declared.Shown.TheVariants as shown
 use Rattle.table.specs.declared.Room.{Room}
 use Rattle.table.specs.declared.Rule.{Rule}
 use Rattle.table.specs.declared.Table.{Table}
@@ -13,8 +12,6 @@ use Rattle.table.specs.Table.{rule_at, state_at, active, is_allow, bucket_of, tr
 use Rattle.matching.specs.Matching.{rule_matches}
 use Rattle.flags.specs.declared.FlagKind.{FlagKind}
 use Rattle.flags.specs.declared.FlagKind.TheVariants as kind
-use Rattle.flags.specs.declared.Flags.{Flags}
-use Rattle.flags.specs.declared.Flags.TheVariants as flags
 use Rattle.flags.specs.declared.Next.{Next}
 use Rattle.flags.specs.declared.Next.TheVariants as next
 use Rattle.conversations.specs.declared.Turn.{Turn}
@@ -28,8 +25,7 @@ use Rattle.verdicts.specs.Rule.{allowed, allowed_by_default, level_of, raised, o
 use Rattle.records.specs.Step.{ticked}
 use Rattle.steps.specs.Steps.{Arrival, seen_of, turn_of}
 use Rattle.firewall.specs.Firewall.{answered, judge_of}
-use Rattle.std.specs.Prelude.{Option}
-use Rattle.std.specs.Prelude.{Some, None}
+use Rattle.std.specs.Prelude.{Option, Some, None, Ok}
 
 -- ---- "the first active rule that matches it"; x is what is seen of the frame
 
@@ -76,9 +72,9 @@ step_holds m q ps k =
     (opens k && ltb (seat_of m q.second ps) m.places)
 
 -- wrong flags, which are 40, are no step
-abbrev pub flags_hold : Room → Quad → List Place → Flags → Bool
-flags_hold m q ps flags.Wrong = false
-flags_hold m q ps (flags.Kind k) = step_holds m q ps k
+abbrev pub flags_hold : Room → Quad → List Place → Option FlagKind → Bool
+flags_hold m q ps None = false
+flags_hold m q ps (Some k) = step_holds m q ps k
 
 -- there is no tracking, or it holds
 abbrev pub tracking_holds : Option Room → Turn → List Place → Bool
@@ -108,6 +104,6 @@ Exactly t s reading x v = ((v ≡ allowed) ↔ ByRule t s reading x) × ((v ≡ 
 -- of every judged frame
 abbrev pub PassesExactly : Type 0
 PassesExactly =
-    (t : Table) (w : Lent) (a : Arrival) (space : List ℕ) (l : Layers) (v id n : ℕ) → shown_of a.bytes ≡ shown.Shows l
+    (t : Table) (w : Lent) (a : Arrival) (space : List ℕ) (l : Layers) (v id n : ℕ) → shown_of a.bytes ≡ Ok l
     → (judge_of t w a space).said ≡ answered v id n
     → Exactly t (records_of w) a.reading (seen_of a l) v

@@ -4,7 +4,6 @@ use Rattle.std.specs.Prelude.{ℕ, zero, suc, ◌≤◌, ◌≡◌, true, List, 
 use Rattle.numbers.specs.Lists.{swap_at}
 use Rattle.layers.specs.Layers.{shown_of}
 use Rattle.layers.specs.declared.Layers.{Layers}
-use Rattle.layers.specs.declared.Shown.TheVariants as shown
 use Rattle.table.specs.declared.Table.{Table}
 use Rattle.deciding.specs.Decider.{decider_of}
 use Rattle.records.specs.Records.{Lent, records_of, Shaped}
@@ -12,6 +11,7 @@ use Rattle.records.specs.Good.{records_good}
 use Rattle.events.specs.Events.{event_room}
 use Rattle.steps.specs.Steps.{Arrival, seen_of}
 use Rattle.firewall.specs.Firewall.{Said, switch_of, judge_of}
+use Rattle.std.specs.Prelude.{Ok}
 
 -- a frame that arrives, with the event space as the call finds it; or a switch of vehicle state
 pub data Item : Type 0 where
@@ -56,7 +56,7 @@ module _ {S X : Type 0} (May : S → X → X → Type 0) (go : S → X → S) wh
 -- the frame comes on one of the two sockets and shows the layers l, and its call has space for an event: a good table and record judge it
 pub record Judges (a : Arrival) (space : List ℕ) (l : Layers) : Type 0 where
   pub socket : a.socket ≤ 1
-  pub shows : shown_of a.bytes ≡ shown.Shows l
+  pub shows : shown_of a.bytes ≡ Ok l
   pub room : event_room ≤ length space
 
 -- two judged frames at one reading, which two deciders decide in the active state
