@@ -1,271 +1,174 @@
 // The table, a line for each rule: the settings that are set, by name.
-use crate::print::{hex, number, wide8, wide16};
-use numbers::wide64;
-use std::io;
+use crate::words::action;
+use addresses::Wide;
+use std::fmt::{Display, Formatter, Radix, Write};
+use std::net::Ipv4Addr;
+use std::{fmt, io};
 use table::*;
 
-// The name of a setting, after a comma where it is not the first.
-fn name(rt: &impl Print, later: bool, s: &str) -> io::Result<()> {
-    if later {
-        rt.print(", ")?;
+// A list of settings as it is written.
+#[derive(Drop)]
+struct Names<'a, W> {
+    to: &'a mut Formatter<W>,
+    later: bool,
+}
+
+impl<W: Write> Names<'_, W> {
+    // One that is set, after a comma where it is not the first.
+    fn put(&mut self, what: impl Display + Drop) -> fmt::Result {
+        if self.later {
+            write!(self.to, ", ")?;
+        }
+        self.later = true;
+        write!(self.to, "{what}")
     }
-    rt.print(s)
-}
 
-// Each of these prints a setting that is set, and answers whether one was printed by now.
-fn mac(rt: &impl Print, later: bool, what: &str, s: Setting64) -> io::Result<bool> {
-    let Setting64::Set(v) = s else {
-        return Ok(later);
-    };
-    name(rt, later, what)?;
-    hex(rt, v, 12)?;
-    Ok(true)
-}
-
-fn hex16(rt: &impl Print, later: bool, what: &str, s: Setting16) -> io::Result<bool> {
-    let Setting16::Set(v) = s else {
-        return Ok(later);
-    };
-    name(rt, later, what)?;
-    hex(rt, wide16(v), 4)?;
-    Ok(true)
-}
-
-fn hex8(rt: &impl Print, later: bool, what: &str, s: Setting8) -> io::Result<bool> {
-    let Setting8::Set(v) = s else {
-        return Ok(later);
-    };
-    name(rt, later, what)?;
-    hex(rt, wide8(v), 2)?;
-    Ok(true)
-}
-
-fn decimal16(
-    rt: &impl Print,
-    later: bool,
-    what: &str,
-    s: Setting16,
-    unit: &str,
-) -> io::Result<bool> {
-    let Setting16::Set(v) = s else {
-        return Ok(later);
-    };
-    name(rt, later, what)?;
-    number(rt, wide16(v))?;
-    rt.print(unit)?;
-    Ok(true)
-}
-
-fn decimal8(rt: &impl Print, later: bool, what: &str, s: Setting8, unit: &str) -> io::Result<bool> {
-    let Setting8::Set(v) = s else {
-        return Ok(later);
-    };
-    name(rt, later, what)?;
-    number(rt, wide8(v))?;
-    rt.print(unit)?;
-    Ok(true)
-}
-
-fn decimal32(
-    rt: &impl Print,
-    later: bool,
-    what: &str,
-    s: Setting32,
-    unit: &str,
-) -> io::Result<bool> {
-    let Setting32::Set(v) = s else {
-        return Ok(later);
-    };
-    name(rt, later, what)?;
-    number(rt, wide64(v))?;
-    rt.print(unit)?;
-    Ok(true)
-}
-
-fn prefix(rt: &impl Print, later: bool, what: &str, s: PrefixSetting) -> io::Result<bool> {
-    let PrefixSetting::Set(p) = s else {
-        return Ok(later);
-    };
-    name(rt, later, what)?;
-    address(rt, wide64(p.address))?;
-    rt.print("/")?;
-    number(rt, wide8(p.length))?;
-    Ok(true)
-}
-
-fn address(rt: &impl Print, a: u64) -> io::Result<()> {
-    number(rt, a / 16777216 % 256)?;
-    rt.print(".")?;
-    number(rt, a / 65536 % 256)?;
-    rt.print(".")?;
-    number(rt, a / 256 % 256)?;
-    rt.print(".")?;
-    number(rt, a % 256)
-}
-
-fn prefix6(rt: &impl Print, later: bool, what: &str, s: Prefix6Setting) -> io::Result<bool> {
-    let Prefix6Setting::Set(p) = s else {
-        return Ok(later);
-    };
-    name(rt, later, what)?;
-    let a = p.address;
-    groups(rt, a.high)?;
-    rt.print(":")?;
-    groups(rt, a.low)?;
-    rt.print("/")?;
-    number(rt, wide8(p.length))?;
-    Ok(true)
-}
-
-// Four groups of an IPv6 address.
-fn groups(rt: &impl Print, half: u64) -> io::Result<()> {
-    hex(rt, half / 281474976710656, 4)?;
-    rt.print(":")?;
-    hex(rt, half / 4294967296 % 65536, 4)?;
-    rt.print(":")?;
-    hex(rt, half / 65536 % 65536, 4)?;
-    rt.print(":")?;
-    hex(rt, half % 65536, 4)
-}
-
-fn kind(rt: &impl Print, later: bool, s: KindSetting) -> io::Result<bool> {
-    let KindSetting::Set(k) = s else {
-        return Ok(later);
-    };
-    match k {
-        Kind::Tcp => name(rt, later, "TCP"),
-        Kind::Udp => name(rt, later, "UDP"),
-        Kind::Unknown => name(rt, later, "unknown kind"),
-    }?;
-    Ok(true)
-}
-
-fn ports(rt: &impl Print, later: bool, what: &str, s: RangeSetting) -> io::Result<bool> {
-    let RangeSetting::Set(r) = s else {
-        return Ok(later);
-    };
-    name(rt, later, what)?;
-    if r.low == r.high {
-        rt.print(" port ")?;
-    } else {
-        rt.print(" ports ")?;
-        number(rt, wide16(r.low))?;
-        rt.print("-")?;
+    fn decimal<T: Copy + Display>(
+        &mut self,
+        before: impl Display + Drop,
+        s: Setting<T>,
+        behind: &str,
+    ) -> fmt::Result {
+        match s {
+            Setting::Unset => Ok(()),
+            Setting::Set(v) => self.put(format_args!("{before}{v}{behind}")),
+        }
     }
-    number(rt, wide16(r.high))?;
-    Ok(true)
-}
 
-fn link(rt: &impl Print, s: LinkSettings) -> io::Result<bool> {
-    let destination = s.destination;
-    let source = s.source;
-    let vlan = s.vlan;
-    let priority = s.priority;
-    let ether = s.ether;
-    let socket = s.socket;
-    let later = mac(rt, false, "destination MAC ", destination)?;
-    let later = mac(rt, later, "source MAC ", source)?;
-    let later = decimal16(rt, later, "VLAN ", vlan, "")?;
-    let later = decimal8(rt, later, "priority ", priority, "")?;
-    let later = hex16(rt, later, "ether 0x", ether)?;
-    decimal8(rt, later, "socket ", socket, "")
-}
+    // In hexadecimal, of so many digits.
+    fn hex<T: Copy + Radix>(&mut self, before: &str, s: Setting<T>, width: usize) -> fmt::Result {
+        match s {
+            Setting::Unset => Ok(()),
+            Setting::Set(v) => self.put(format_args!("{before}{v:0width$x}")),
+        }
+    }
 
-fn ipv4(rt: &impl Print, later: bool, s: Ipv4Settings) -> io::Result<bool> {
-    let source = s.source;
-    let destination = s.destination;
-    let protocol = s.protocol;
-    let later = prefix(rt, later, "source ", source)?;
-    let later = prefix(rt, later, "destination ", destination)?;
-    decimal8(rt, later, "protocol ", protocol, "")
-}
+    fn prefix<A: Copy, D: Display + Drop, S: Fn(A) -> D>(
+        &mut self,
+        before: impl Display + Drop,
+        s: Setting<Prefix<A>>,
+        shown: S,
+    ) -> fmt::Result
+        requires { S.IsAlwaysCallable shown }
+    {
+        match s {
+            Setting::Unset => Ok(()),
+            Setting::Set(p) => self.put(format_args!("{before}{}/{}", shown(p.address), p.length)),
+        }
+    }
 
-fn ipv6(rt: &impl Print, later: bool, s: Ipv6Settings) -> io::Result<bool> {
-    let source = s.source;
-    let destination = s.destination;
-    let protocol = s.protocol;
-    let later = prefix6(rt, later, "IPv6 source ", source)?;
-    let later = prefix6(rt, later, "IPv6 destination ", destination)?;
-    decimal8(rt, later, "IPv6 protocol ", protocol, "")
-}
+    fn ports(&mut self, end: &str, s: Setting<Range>) -> fmt::Result {
+        match s {
+            Setting::Unset => Ok(()),
+            Setting::Set(r) if r.low == r.high => self.put(format_args!("{end} port {}", r.high)),
+            Setting::Set(r) => self.put(format_args!("{end} ports {}-{}", r.low, r.high)),
+        }
+    }
 
-fn transport(rt: &impl Print, later: bool, s: TransportSettings) -> io::Result<bool> {
-    let k = s.kind;
-    let source = s.source;
-    let destination = s.destination;
-    let later = kind(rt, later, k)?;
-    let later = ports(rt, later, "source", source)?;
-    ports(rt, later, "destination", destination)
-}
+    fn link(&mut self, s: LinkSettings) -> fmt::Result {
+        self.hex("destination MAC ", s.destination, 12)?;
+        self.hex("source MAC ", s.source, 12)?;
+        self.decimal("VLAN ", s.vlan, "")?;
+        self.decimal("priority ", s.priority, "")?;
+        self.hex("ether 0x", s.ether, 4)?;
+        self.decimal("socket ", s.socket, "")
+    }
 
-fn someip(rt: &impl Print, later: bool, s: SomeipSettings) -> io::Result<bool> {
-    let service = s.service;
-    let method = s.method;
-    let version = s.version;
-    let kind = s.kind;
-    let code = s.code;
-    let later = hex16(rt, later, "service 0x", service)?;
-    let later = hex16(rt, later, "method 0x", method)?;
-    let later = decimal8(rt, later, "version ", version, "")?;
-    let later = hex8(rt, later, "type 0x", kind)?;
-    hex8(rt, later, "code 0x", code)
-}
+    // Of one kind, which stands before each name; `shown` is how its addresses are written.
+    fn ip<A: Copy, D: Display + Drop, S: Fn(A) -> D>(
+        &mut self,
+        kind: &str,
+        s: IpSettings<A>,
+        shown: S,
+    ) -> fmt::Result
+        requires { S.IsAlwaysCallable shown }
+    {
+        self.prefix(format_args!("{kind}source "), s.source, &shown)?;
+        self.prefix(format_args!("{kind}destination "), s.destination, &shown)?;
+        self.decimal(format_args!("{kind}protocol "), s.protocol, "")
+    }
 
-fn limits(
-    rt: &impl Print,
-    later: bool,
-    rate: RateSettings,
-    tracking: TrackingSettings,
-) -> io::Result<()> {
-    let size = rate.size;
-    let refill = rate.refill;
-    let places = tracking.places;
-    let limit = tracking.limit;
-    let number0 = tracking.number0;
-    let number1 = tracking.number1;
-    let later = decimal16(rt, later, "bucket ", size, "")?;
-    let later = decimal16(rt, later, "refill ", refill, " per second")?;
-    let later = decimal8(rt, later, "", places, " places")?;
-    let later = decimal32(rt, later, "idle limit ", limit, " ms")?;
-    let later = decimal8(rt, later, "", number0, " for socket 0")?;
-    decimal8(rt, later, "", number1, " for socket 1")?;
-    Ok(())
-}
+    fn transport(&mut self, s: TransportSettings) -> fmt::Result {
+        match s.kind {
+            Setting::Unset => Ok(()),
+            Setting::Set(Kind::Tcp) => self.put("TCP"),
+            Setting::Set(Kind::Udp) => self.put("UDP"),
+            Setting::Set(Kind::Unknown) => self.put("unknown kind"),
+        }?;
+        self.ports("source", s.source)?;
+        self.ports("destination", s.destination)
+    }
 
-fn action(rt: &impl Print, a: Action) -> io::Result<()> {
-    match a {
-        Action::Allow => rt.print("  allow"),
-        Action::Block => rt.print("  block"),
-        Action::Unknown => rt.print("  unknown"),
+    fn someip(&mut self, s: SomeipSettings) -> fmt::Result {
+        self.hex("service 0x", s.service, 4)?;
+        self.hex("method 0x", s.method, 4)?;
+        self.decimal("version ", s.version, "")?;
+        self.hex("type 0x", s.kind, 2)?;
+        self.hex("code 0x", s.code, 2)
+    }
+
+    fn limits(&mut self, rate: RateSettings, tracking: TrackingSettings) -> fmt::Result {
+        self.decimal("bucket ", rate.size, "")?;
+        self.decimal("refill ", rate.refill, " per second")?;
+        self.decimal("", tracking.places, " places")?;
+        self.decimal("idle limit ", tracking.limit, " ms")?;
+        self.decimal("", tracking.number0, " for socket 0")?;
+        self.decimal("", tracking.number1, " for socket 1")
     }
 }
 
-pub(crate) fn rule(rt: &impl Print, r: Rule) -> io::Result<()> {
-    number(rt, wide16(r.id))?;
-    let a = r.action;
-    action(rt, a)?;
-    rt.print("  ")?;
-    let later = link(rt, r.link)?;
-    let later = ipv4(rt, later, r.ipv4)?;
-    let later = ipv6(rt, later, r.ipv6)?;
-    let later = transport(rt, later, r.transport)?;
-    let later = someip(rt, later, r.someip)?;
-    limits(rt, later, r.rate, r.tracking)?;
-    rt.print("\n")
+// An IPv6 address in eight groups of four digits, of which none is left out.
+#[derive(Clone, Copy)]
+struct Groups(Wide);
+
+impl Display for Groups {
+    fn fmt<W: Write>(&self, f: &mut Formatter<W>) -> fmt::Result {
+        let Wide { high, low } = self.0;
+        write!(f, "{}:{}", Half(high), Half(low))
+    }
+}
+
+#[derive(Clone, Copy)]
+struct Half(u64);
+
+impl Display for Half {
+    fn fmt<W: Write>(&self, f: &mut Formatter<W>) -> fmt::Result {
+        let n = self.0;
+        write!(
+            f,
+            "{:04x}:{:04x}:{:04x}:{:04x}",
+            n >> 48,
+            n >> 32 & 0xffff,
+            n >> 16 & 0xffff,
+            n & 0xffff
+        )
+    }
+}
+
+#[derive(Clone, Copy)]
+pub(crate) struct RuleLine<'a>(pub &'a Rule);
+
+impl Display for RuleLine<'_> {
+    fn fmt<W: Write>(&self, f: &mut Formatter<W>) -> fmt::Result {
+        let r = self.0;
+        write!(f, "{}  {}  ", r.id, action(r.action))?;
+        let mut names = Names {
+            to: f,
+            later: false,
+        };
+        names.link(r.link)?;
+        names.ip("", r.ipv4, Ipv4Addr::from_bits)?;
+        names.ip("IPv6 ", r.ipv6, Groups)?;
+        names.transport(r.transport)?;
+        names.someip(r.someip)?;
+        names.limits(r.rate, r.tracking)
+    }
 }
 
 // The rules in table order, and the default of the first state.
-pub(crate) fn table(rt: &impl Print, t: Table) -> io::Result<()> {
-    let mut k = 0;
-    while k < 64 {
-        if k < t.rulecount {
-            rule(rt, t.rules[k])?;
-        }
-        k += 1;
+pub(crate) fn table(rt: &impl Print, t: &Table) -> io::Result<()> {
+    for r in t.rules.iter().take(t.rulecount) {
+        println!(rt; "{}", RuleLine(r))?;
     }
-    let s = t.states[0];
-    let a = s.default;
-    rt.print("default")?;
-    action(rt, a)?;
-    rt.print("\n")
+    println!(rt; "default  {}", action(t.states[0].default))
 }

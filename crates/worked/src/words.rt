@@ -1,157 +1,149 @@
-// What is refused, in words; and the settings, each by its number.
-use crate::print::{number, right, wide8, wide16};
-use firewall::refusal::Refusal;
-use ranges::setting_number::{SETTINGS, SettingNumber};
-use std::io;
-use table::RULES;
+// What is refused, judged and set, in words.
+use events::Event;
+use faults::AtFault;
+use firewall::Refusal;
+use flags::Phase;
+use paper::Frame;
+use ranges::setting_number::SettingNumber;
+use std::fmt::{Display, Formatter, Write};
+use std::{fmt, io};
+use steps::Answer;
+use table::Action;
 use table::words::{TableWords, id};
+use verdicts::verdict::Verdict;
 
-// As numbers, since a pattern is a number.
-const ID: u8 = SettingNumber::ID.number;
-
-const ACTION: u8 = SettingNumber::ACTION.number;
-
-const DESTINATION_MAC: u8 = SettingNumber::DESTINATION_MAC.number;
-
-const SOURCE_MAC: u8 = SettingNumber::SOURCE_MAC.number;
-
-const VLAN_ID: u8 = SettingNumber::VLAN_ID.number;
-
-const PRIORITY: u8 = SettingNumber::PRIORITY.number;
-
-const ETHER_TYPE: u8 = SettingNumber::ETHER_TYPE.number;
-
-const SOCKET: u8 = SettingNumber::SOCKET.number;
-
-const IPV4_SOURCE: u8 = SettingNumber::IPV4_SOURCE.number;
-
-const IPV4_DESTINATION: u8 = SettingNumber::IPV4_DESTINATION.number;
-
-const IPV4_PROTOCOL: u8 = SettingNumber::IPV4_PROTOCOL.number;
-
-const IPV6_SOURCE: u8 = SettingNumber::IPV6_SOURCE.number;
-
-const IPV6_DESTINATION: u8 = SettingNumber::IPV6_DESTINATION.number;
-
-const IPV6_PROTOCOL: u8 = SettingNumber::IPV6_PROTOCOL.number;
-
-const KIND: u8 = SettingNumber::KIND.number;
-
-const SOURCE_PORTS: u8 = SettingNumber::SOURCE_PORTS.number;
-
-const DESTINATION_PORTS: u8 = SettingNumber::DESTINATION_PORTS.number;
-
-const SERVICE: u8 = SettingNumber::SERVICE.number;
-
-const METHOD: u8 = SettingNumber::METHOD.number;
-
-const PROTOCOL_VERSION: u8 = SettingNumber::PROTOCOL_VERSION.number;
-
-const MESSAGE_TYPE: u8 = SettingNumber::MESSAGE_TYPE.number;
-
-const RETURN_CODE: u8 = SettingNumber::RETURN_CODE.number;
-
-const BUCKET_SIZE: u8 = SettingNumber::BUCKET_SIZE.number;
-
-const REFILL: u8 = SettingNumber::REFILL.number;
-
-const PLACES: u8 = SettingNumber::PLACES.number;
-
-const IDLE_LIMIT: u8 = SettingNumber::IDLE_LIMIT.number;
-
-const NUMBER0: u8 = SettingNumber::NUMBER0.number;
-
-const NUMBER1: u8 = SettingNumber::NUMBER1.number;
-
-// A refusal by its number; of a bad table also which rule, by its id and its place, and which of its settings, or that no rule is at fault.
-pub(crate) fn refused(rt: &impl Print, r: Refusal, t: &TableWords) -> io::Result<()> {
-    let n = r.number;
-    rt.print("refused ")?;
-    number(rt, wide8(n))?;
-    match n {
-        Refusal::TOO_SHORT => rt.print(" too short"),
-        Refusal::TOO_LONG => rt.print(" too long"),
-        Refusal::NO_SPACE => rt.print(" event space too small"),
-        Refusal::BAD_TABLE => at_fault(rt, r, t),
-        Refusal::BAD_RECORD => rt.print(" bad record"),
-        Refusal::NO_SUCH_STATE => rt.print(" no such state"),
-        _ => rt.print(" no such socket"),
+pub(crate) fn frame(f: Frame) -> &'static str {
+    match f {
+        Frame::A => "A",
+        Frame::Padded => "A with four zero bytes added",
+        Frame::Type81 => "A with type 0x81",
+        Frame::Cut => "A less its last byte",
+        Frame::Ether0806 => "0x0806",
+        Frame::Ack1 => "ACK from 443 to 50001",
+        Frame::SynAck1 => "SYN+ACK from 443 to 50001",
+        Frame::Syn1 => "SYN from 443 to 50001",
+        Frame::Syn2 => "SYN from 443 to 50002",
+        Frame::Syn3 => "SYN from 443 to 50003",
+        Frame::Port68 => "A with destination port 68",
+        Frame::Port1024 => "A with destination port 1024",
+        Frame::First13 => "13 bytes",
+        Frame::Tagged17 => "17 bytes, tagged",
+        Frame::Longest => "A with zeros to 1518 bytes",
+        Frame::TooLong => "A with zeros to 1519 bytes",
     }
 }
 
-fn at_fault(rt: &impl Print, r: Refusal, t: &TableWords) -> io::Result<()> {
-    let place = r.place;
-    if place < RULES {
-        rt.print(" rule ")?;
-        number(rt, wide16(id(&t[place])))?;
-        rt.print(" at place ")?;
-        number(rt, place as u64)?;
-        rt.print(": ")?;
-        setting(rt, r.setting)
-    } else {
-        rt.print(" the states or the rule count")
+pub(crate) fn verdict(v: Verdict) -> &'static str {
+    match v {
+        Verdict::Allowed => "allowed",
+        Verdict::AllowedByDefault => "allowed by default",
+        Verdict::BlockedByRule => "blocked by rule",
+        Verdict::OverRate => "over rate",
+        Verdict::WrongFlags => "wrong flags",
+        Verdict::NoConversation => "no such conversation",
+        Verdict::NotInState => "not in this state",
+        Verdict::NoPlaceFree => "no place for it",
+        Verdict::BlockedByDefault => "blocked by default",
+    }
+}
+
+// The events by the names that the papers have for them. By number: an event is known by the bytes that were written of it.
+pub(crate) fn event(number: u16) -> &'static str {
+    match number {
+        Event::RATELIMIT => "over rate ",
+        Event::STATE_TRANSITION => "TCP state transition ",
+        Event::MAX_CONNECTIONS => "too many TCP connections ",
+        Event::LINK_MISMATCH => "link mismatch ",
+        Event::IPV4_MISMATCH => "IPv4 mismatch ",
+        Event::IPV6_MISMATCH => "IPv6 mismatch ",
+        Event::TCP_MISMATCH => "TCP mismatch ",
+        Event::UDP_MISMATCH => "UDP mismatch ",
+        Event::SOMEIP_MISMATCH => "SOME/IP mismatch ",
+        _ => "",
+    }
+}
+
+pub(crate) fn phase(p: Phase) -> &'static str {
+    match p {
+        Phase::Opening => "Opening",
+        Phase::Running => "Running",
+        Phase::Closing => "Closing",
+    }
+}
+
+pub(crate) fn action(a: Action) -> &'static str {
+    match a {
+        Action::Allow => "allow",
+        Action::Block => "block",
+        Action::Unknown => "unknown",
+    }
+}
+
+// By the layers, from the id up.
+fn setting(s: SettingNumber) -> &'static str {
+    match s {
+        SettingNumber::Id => "id",
+        SettingNumber::Action => "action",
+        SettingNumber::DestinationMac => "destination MAC",
+        SettingNumber::SourceMac => "source MAC",
+        SettingNumber::VlanId => "VLAN id",
+        SettingNumber::Priority => "priority",
+        SettingNumber::EtherType => "ether type",
+        SettingNumber::Socket => "socket",
+        SettingNumber::Ipv4Source => "IPv4 source",
+        SettingNumber::Ipv4Destination => "IPv4 destination",
+        SettingNumber::Ipv4Protocol => "IPv4 protocol",
+        SettingNumber::Ipv6Source => "IPv6 source",
+        SettingNumber::Ipv6Destination => "IPv6 destination",
+        SettingNumber::Ipv6Protocol => "IPv6 protocol",
+        SettingNumber::Kind => "kind",
+        SettingNumber::SourcePorts => "source ports",
+        SettingNumber::DestinationPorts => "destination ports",
+        SettingNumber::Service => "service",
+        SettingNumber::Method => "method",
+        SettingNumber::ProtocolVersion => "protocol version",
+        SettingNumber::MessageType => "message type",
+        SettingNumber::ReturnCode => "return code",
+        SettingNumber::BucketSize => "bucket size",
+        SettingNumber::Refill => "refill",
+        SettingNumber::Places => "places",
+        SettingNumber::IdleLimit => "idle limit",
+        SettingNumber::Number0 => "number of socket 0",
+        SettingNumber::Number1 => "number of socket 1",
     }
 }
 
 // The page of the settings by number.
 pub(crate) fn settings(rt: &impl Print) -> io::Result<()> {
-    rt.print("\nthe settings by number, in the order in which a fault is looked for\n")?;
-    let all = SettingNumber::in_order();
-    let mut k = 0;
-    while k < SETTINGS {
-        let s = all[k];
-        right(rt, wide8(s.number), 8)?;
-        rt.print("  ")?;
-        setting(rt, s.number)?;
-        rt.print("\n")?;
-        k += 1;
+    println!(rt; "\nthe settings by number, in the order in which a fault is looked for")?;
+    for s in SettingNumber::in_order() {
+        println!(rt; "{:>8}  {}", s.number(), setting(s))?;
     }
     Ok(())
 }
 
-// By the layers, from the id up.
-fn setting(rt: &impl Print, n: u8) -> io::Result<()> {
-    match n {
-        ID => rt.print("id"),
-        ACTION => rt.print("action"),
-        DESTINATION_MAC => rt.print("destination MAC"),
-        SOURCE_MAC => rt.print("source MAC"),
-        VLAN_ID => rt.print("VLAN id"),
-        PRIORITY => rt.print("priority"),
-        ETHER_TYPE => rt.print("ether type"),
-        SOCKET => rt.print("socket"),
-        _ => above_link(rt, n),
-    }
-}
+// A refusal by its number; of a bad table also which rule, by its id and its place, and which of its settings, or that no rule is at fault.
+#[derive(Clone, Copy)]
+pub(crate) struct RefusalWords<'a>(pub Refusal, pub &'a TableWords);
 
-fn above_link(rt: &impl Print, n: u8) -> io::Result<()> {
-    match n {
-        IPV4_SOURCE => rt.print("IPv4 source"),
-        IPV4_DESTINATION => rt.print("IPv4 destination"),
-        IPV4_PROTOCOL => rt.print("IPv4 protocol"),
-        IPV6_SOURCE => rt.print("IPv6 source"),
-        IPV6_DESTINATION => rt.print("IPv6 destination"),
-        IPV6_PROTOCOL => rt.print("IPv6 protocol"),
-        KIND => rt.print("kind"),
-        SOURCE_PORTS => rt.print("source ports"),
-        DESTINATION_PORTS => rt.print("destination ports"),
-        _ => above_transport(rt, n),
-    }
-}
-
-fn above_transport(rt: &impl Print, n: u8) -> io::Result<()> {
-    match n {
-        SERVICE => rt.print("service"),
-        METHOD => rt.print("method"),
-        PROTOCOL_VERSION => rt.print("protocol version"),
-        MESSAGE_TYPE => rt.print("message type"),
-        RETURN_CODE => rt.print("return code"),
-        BUCKET_SIZE => rt.print("bucket size"),
-        REFILL => rt.print("refill"),
-        PLACES => rt.print("places"),
-        IDLE_LIMIT => rt.print("idle limit"),
-        NUMBER0 => rt.print("number of socket 0"),
-        NUMBER1 => rt.print("number of socket 1"),
-        _ => rt.print("no setting"),
+impl Display for RefusalWords<'_> {
+    fn fmt<W: Write>(&self, f: &mut Formatter<W>) -> fmt::Result {
+        let RefusalWords(r, t) = *self;
+        write!(f, "refused {} ", r.number())?;
+        match r {
+            Refusal::TooShort => write!(f, "too short"),
+            Refusal::TooLong => write!(f, "too long"),
+            Refusal::NoSpace => write!(f, "event space too small"),
+            Refusal::BadTable(AtFault::Rule { place, setting: s }) => {
+                let id = t.get(place).map_or(Answer::NO_RULE, id);
+                write!(f, "rule {id} at place {place}: {}", setting(s))
+            }
+            Refusal::BadTable(AtFault::StatesOrRuleCount) => {
+                write!(f, "the states or the rule count")
+            }
+            Refusal::BadRecord => write!(f, "bad record"),
+            Refusal::NoSuchState => write!(f, "no such state"),
+            Refusal::NoSuchSocket => write!(f, "no such socket"),
+        }
     }
 }
