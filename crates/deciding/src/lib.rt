@@ -48,6 +48,7 @@ fn score(r: &RuleWords, marks: u64, i: usize, x: &Seen) -> usize
 }
 
 // The first of the active rules with the greatest score. None is above that of a rule that matches, so none behind one is looked at.
+// What is asked of table and state are two bounds and no type of a good table: a table at fault is decided too, as long as its rules are at most 64.
 fn best_fit(t: &TableWords, state: usize, x: &Seen) -> Best
     requires state { state < most_states }
     requires rules { (table_in t.now).rulecount ≤ most_rules }

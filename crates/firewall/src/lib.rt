@@ -69,7 +69,7 @@ pub fn switch(t: &TableWords, state: usize, words: &mut RecordWords) -> Result<(
     Ok(())
 }
 
-// A frame judged by a table and a record that were checked.
+// A frame judged by a table and a record that were checked. Both facts are clauses and no type: the records change, and then are told anew to be good.
 fn judge_frame(
     t: &TableWords,
     words: &mut RecordWords,
