@@ -1,28 +1,21 @@
--- Laws of the frames: bytes copied one after the other over zeros.
+-- Laws of the frames: bytes copied to the front of zeros, and what the stores make of them.
 -- Assumes nothing.
-use Prim.Native.Nat.{ℕ, zero, suc, ◌-◌, ◌≤◌, ◌<◌}
+use Prim.Native.Nat.{ℕ, ◌-◌, ◌≤◌}
 use mathlib.Core.Path.{◌≡◌, refl, ap, sym, ◌∙◌}
-use mathlib.Core.List.{List, [], ◌∷◌, ◌++◌}
-use lib.ListN.{length, get_or, take, set, length-append}
-use native.Mathlib.Nat.{le_of_suc-le-suc, not-suc-le-zero}
+use mathlib.Core.List.{List, ◌++◌}
+use lib.ListN.{length, drop, set, replicate, length-append}
 use native.Mathlib.Omega.{arith}
+use Rattle.std.proofs.lemmas.List.{drop-replicate}
 use Rattle.numbers.specs.Lists.{copies}
+use Rattle.numbers.proofs.Lists.{copies_replicate}
 use Rattle.paper.specs.declared.Frame.{Frame}
 use Rattle.paper.specs.declared.Frame.TheVariants as frame
 use Rattle.paper.specs.Frames.{hex, frame_a, padded, with_type, with_port, frame0806, tcp, ack1, syn_ack1, syn1, syn2, syn3, first13, tagged17, frame_bytes, laid}
 
--- one more of them
-copied : (s : List ℕ) (i n : ℕ) → i < length s → set (take i s ++ copies (suc n) 0) i (get_or s i 0) ≡ take (suc i) s ++ copies n 0
-copied [] i n h = absurd (not-suc-le-zero h)
-copied (x ∷ s) zero n h = refl
-copied (x ∷ s) (suc i) n h = ap (λ l. x ∷ l) (copied s i n (le_of_suc-le-suc h))
-
-pub copied_next :
-    (m : ℕ) (s : List ℕ) (i : ℕ) → i < length s → i < m
-    → set (take i s ++ copies (m - i) 0) i (get_or s i 0) ≡ take (suc i) s ++ copies (m - suc i) 0
-copied_next m s i h k =
-    let e : m - i ≡ suc (m - suc i) = omega arith in
-    rw e (copied s i (m - suc i) h)
+-- copied to the front of zeros
+pub copied :
+    (s : List ℕ) {t : List ℕ} → t ≡ s → t ++ drop (length s) (replicate 1519 0) ≡ s ++ copies (1519 - length s) 0
+copied s {t} e = rw (e, drop-replicate {X = ℕ} (length s) 1519 0, copies_replicate {A = ℕ} 0 (1519 - length s))
 
 -- ---- each frame as the code makes it
 
@@ -71,46 +64,6 @@ made_right frame.TooLong = refl
 
 pub put_right : {l : List ℕ} {f g : Frame} → f ≡ g → l ≡ made g → l ≡ laid (frame_bytes f)
 put_right {l} {f} {g} e p = p ∙ made_right g ∙ ap (λ h. laid (frame_bytes h)) (sym e)
-
-abbrev pub long : Frame → ℕ
-long frame.A = 72
-long frame.Padded = 76
-long frame.Type81 = 72
-long frame.Cut = 71
-long frame.Ether0806 = 60
-long frame.Ack1 = 60
-long frame.SynAck1 = 60
-long frame.Syn1 = 60
-long frame.Syn2 = 60
-long frame.Syn3 = 60
-long frame.Port68 = 72
-long frame.Port1024 = 72
-long frame.First13 = 13
-long frame.Tagged17 = 17
-long frame.Longest = 1518
-long frame.TooLong = 1519
-
-long_right : (f : Frame) → long f ≡ length (frame_bytes f)
-unfolding hex frame_a padded with_type with_port frame0806 tcp ack1 syn_ack1 syn1 syn2 syn3 first13 tagged17 frame_bytes
-long_right frame.A = refl
-long_right frame.Padded = refl
-long_right frame.Type81 = refl
-long_right frame.Cut = refl
-long_right frame.Ether0806 = refl
-long_right frame.Ack1 = refl
-long_right frame.SynAck1 = refl
-long_right frame.Syn1 = refl
-long_right frame.Syn2 = refl
-long_right frame.Syn3 = refl
-long_right frame.Port68 = refl
-long_right frame.Port1024 = refl
-long_right frame.First13 = refl
-long_right frame.Tagged17 = refl
-long_right frame.Longest = refl
-long_right frame.TooLong = refl
-
-pub length_right : {f g : Frame} → f ≡ g → long g ≡ length (frame_bytes f)
-length_right {f} {g} e = long_right g ∙ ap (λ h. length (frame_bytes h)) (sym e)
 
 -- a frame lies within its buffer
 pub within : (s : List ℕ) → length s ≤ length (laid s)

@@ -1,4 +1,6 @@
 // The bytes of the frames.
+#![tactic(auto, unfolding(crate::specs::Frames::hex, crate::specs::Frames::frame_a, crate::specs::Frames::padded, crate::specs::Frames::with_type, crate::specs::Frames::with_port, crate::specs::Frames::frame0806, crate::specs::Frames::tcp, crate::specs::Frames::ack1, crate::specs::Frames::syn_ack1, crate::specs::Frames::syn1, crate::specs::Frames::syn2, crate::specs::Frames::syn3, crate::specs::Frames::first13, crate::specs::Frames::tagged17, crate::specs::Frames::frame_bytes, crate::specs::Frames::laid))]
+
 ghost use Rattle.std.specs.Prelude.{◌≡◌, ◌≤◌, length, set};
 ghost use Rattle.paper.specs.Frames.{frame_a, frame0806, tcp, first13, tagged17, frame_bytes, laid};
 
@@ -13,11 +15,7 @@ fn lay(s: &[u8], bytes: &mut [u8; MOST])
     ensures { bytes.new ≡ laid s.now }
 {
     *bytes = [0; MOST];
-    let mut i = 0;
-    while i < s.len() {
-        bytes[i] = s[i];
-        i += 1;
-    }
+    bytes[..s.len()].copy_from_slice(s);
 }
 
 fn a(bytes: &mut [u8; MOST])
@@ -89,18 +87,11 @@ fn length(f: Frame) -> usize
     ensures { result ≡ length (frame_bytes f) }
 {
     match f {
-        Frame::A => 72,
+        Frame::A | Frame::Type81 | Frame::Port68 | Frame::Port1024 => 72,
         Frame::Padded => 76,
-        Frame::Type81 => 72,
         Frame::Cut => 71,
-        Frame::Ether0806 => 60,
-        Frame::Ack1 => 60,
-        Frame::SynAck1 => 60,
-        Frame::Syn1 => 60,
-        Frame::Syn2 => 60,
-        Frame::Syn3 => 60,
-        Frame::Port68 => 72,
-        Frame::Port1024 => 72,
+        Frame::Ether0806 | Frame::Ack1 | Frame::SynAck1 | Frame::Syn1 | Frame::Syn2 | Frame::Syn3 =>
+            60,
         Frame::First13 => 13,
         Frame::Tagged17 => 17,
         Frame::Longest => 1518,
@@ -112,8 +103,7 @@ fn put(f: Frame, bytes: &mut [u8; MOST])
     ensures { bytes.new ≡ laid (frame_bytes f) }
 {
     match f {
-        Frame::A => a(bytes),
-        Frame::Padded => a(bytes),
+        Frame::A | Frame::Padded | Frame::Longest | Frame::TooLong => a(bytes),
         Frame::Type81 => {
             a(bytes);
             bytes[56] = 0x81;
@@ -132,12 +122,11 @@ fn put(f: Frame, bytes: &mut [u8; MOST])
         Frame::Port1024 => to_port(4, 0, bytes),
         Frame::First13 => first_13(bytes),
         Frame::Tagged17 => tagged_17(bytes),
-        Frame::Longest => a(bytes),
-        Frame::TooLong => a(bytes),
     }
 }
 
 // A frame's bytes, with zeros after them, and how many they are, which is within the buffer.
+#[tactic(auto, using(crate::proofs::Laws::within))]
 pub fn frame(f: Frame, bytes: &mut [u8; MOST]) -> usize
     ensures count { result ≡ length (frame_bytes f) }
     ensures bytes { bytes.new ≡ laid (frame_bytes f) }

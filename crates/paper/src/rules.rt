@@ -6,50 +6,50 @@ use table::*;
 
 // What is not set.
 const NO_LINK: LinkSettings = LinkSettings {
-    destination: Setting64::Unset,
-    source: Setting64::Unset,
-    vlan: Setting16::Unset,
-    priority: Setting8::Unset,
-    ether: Setting16::Unset,
-    socket: Setting8::Unset,
+    destination: Setting::Unset,
+    source: Setting::Unset,
+    vlan: Setting::Unset,
+    priority: Setting::Unset,
+    ether: Setting::Unset,
+    socket: Setting::Unset,
 };
 
 const NO_IPV4: Ipv4Settings = Ipv4Settings {
-    source: PrefixSetting::Unset,
-    destination: PrefixSetting::Unset,
-    protocol: Setting8::Unset,
+    source: Setting::Unset,
+    destination: Setting::Unset,
+    protocol: Setting::Unset,
 };
 
 const NO_IPV6: Ipv6Settings = Ipv6Settings {
-    source: Prefix6Setting::Unset,
-    destination: Prefix6Setting::Unset,
-    protocol: Setting8::Unset,
+    source: Setting::Unset,
+    destination: Setting::Unset,
+    protocol: Setting::Unset,
 };
 
 const NO_TRANSPORT: TransportSettings = TransportSettings {
-    kind: KindSetting::Unset,
-    source: RangeSetting::Unset,
-    destination: RangeSetting::Unset,
+    kind: Setting::Unset,
+    source: Setting::Unset,
+    destination: Setting::Unset,
 };
 
 const NO_SOMEIP: SomeipSettings = SomeipSettings {
-    service: Setting16::Unset,
-    method: Setting16::Unset,
-    version: Setting8::Unset,
-    kind: Setting8::Unset,
-    code: Setting8::Unset,
+    service: Setting::Unset,
+    method: Setting::Unset,
+    version: Setting::Unset,
+    kind: Setting::Unset,
+    code: Setting::Unset,
 };
 
 const NO_RATE: RateSettings = RateSettings {
-    size: Setting16::Unset,
-    refill: Setting16::Unset,
+    size: Setting::Unset,
+    refill: Setting::Unset,
 };
 
 const NO_TRACKING: TrackingSettings = TrackingSettings {
-    places: Setting8::Unset,
-    limit: Setting32::Unset,
-    number0: Setting8::Unset,
-    number1: Setting8::Unset,
+    places: Setting::Unset,
+    limit: Setting::Unset,
+    number0: Setting::Unset,
+    number1: Setting::Unset,
 };
 
 const NO_RULE: Rule = Rule {
@@ -83,11 +83,11 @@ fn rule10() -> Rule
         id: 10,
         action: Action::Allow,
         link: LinkSettings {
-            ether: Setting16::Set(0x0800),
+            ether: Setting::Set(0x0800),
             ..NO_LINK
         },
         ipv4: Ipv4Settings {
-            source: PrefixSetting::Set(Prefix {
+            source: Setting::Set(Prefix {
                 address: 0x0a000000,
                 length: 8,
             }),
@@ -95,16 +95,16 @@ fn rule10() -> Rule
         },
         ipv6: NO_IPV6,
         transport: TransportSettings {
-            kind: KindSetting::Set(Kind::Udp),
-            destination: RangeSetting::Set(Range {
+            kind: Setting::Set(Kind::Udp),
+            destination: Setting::Set(Range {
                 low: 30501,
                 high: 30501,
             }),
             ..NO_TRANSPORT
         },
         someip: SomeipSettings {
-            service: Setting16::Set(0x1000),
-            kind: Setting8::Set(0x80),
+            service: Setting::Set(0x1000),
+            kind: Setting::Set(0x80),
             ..NO_SOMEIP
         },
         rate: NO_RATE,
@@ -123,8 +123,8 @@ fn rule20() -> Rule
         ipv4: NO_IPV4,
         ipv6: NO_IPV6,
         transport: TransportSettings {
-            kind: KindSetting::Set(Kind::Tcp),
-            source: RangeSetting::Set(Range {
+            kind: Setting::Set(Kind::Tcp),
+            source: Setting::Set(Range {
                 low: 443,
                 high: 443,
             }),
@@ -133,10 +133,10 @@ fn rule20() -> Rule
         someip: NO_SOMEIP,
         rate: NO_RATE,
         tracking: TrackingSettings {
-            places: Setting8::Set(2),
-            limit: Setting32::Set(1000),
-            number0: Setting8::Set(2),
-            number1: Setting8::Set(2),
+            places: Setting::Set(2),
+            limit: Setting::Set(1000),
+            number0: Setting::Set(2),
+            number1: Setting::Set(2),
         },
     }
 }
@@ -149,7 +149,7 @@ fn rule30() -> Rule
         id: 30,
         action: Action::Allow,
         link: LinkSettings {
-            ether: Setting16::Set(0x0806),
+            ether: Setting::Set(0x0806),
             ..NO_LINK
         },
         ipv4: NO_IPV4,
@@ -157,8 +157,8 @@ fn rule30() -> Rule
         transport: NO_TRANSPORT,
         someip: NO_SOMEIP,
         rate: RateSettings {
-            size: Setting16::Set(2),
-            refill: Setting16::Set(1),
+            size: Setting::Set(2),
+            refill: Setting::Set(1),
         },
         tracking: NO_TRACKING,
     }
@@ -175,8 +175,8 @@ fn rule40() -> Rule
         ipv4: NO_IPV4,
         ipv6: NO_IPV6,
         transport: TransportSettings {
-            kind: KindSetting::Set(Kind::Udp),
-            destination: RangeSetting::Set(Range { low: 0, high: 1023 }),
+            kind: Setting::Set(Kind::Udp),
+            destination: Setting::Set(Range { low: 0, high: 1023 }),
             ..NO_TRANSPORT
         },
         someip: NO_SOMEIP,
@@ -186,15 +186,16 @@ fn rule40() -> Rule
 }
 
 // The four rules, and the one state.
+#[tactic(auto, unfolding(crate::specs::TableT::table_t))]
 pub fn table() -> Table
     ensures { result ≡ table_t }
 {
-    let mut rules = [NO_RULE; 64];
+    let mut rules = [NO_RULE; RULES];
     rules[0] = rule10();
     rules[1] = rule20();
     rules[2] = rule30();
     rules[3] = rule40();
-    let mut states = [NO_STATE; 8];
+    let mut states = [NO_STATE; STATES];
     states[0] = ALL_ACTIVE;
     Table {
         rulecount: 4,

@@ -1,14 +1,12 @@
 -- `paper::frames::put` lays each frame as the paper says it: the laws compute what the stores make.
 use mathlib.Core.Path.{ap}
+use Rattle.std.proofs.Math.Logic.{⊎_elim}
 use Rattle.paper.proofs.Laws.{put_right}
 use Rattle.std.proofs.Common.{set}
 use Rattle.paper.proofs.frames.put.Goals as goal
 
 pub returns-in-A : goal.returns-in-A
-returns-in-A c = put_right c.in-A.is c.a.ensures
-
-pub returns-in-Padded : goal.returns-in-Padded
-returns-in-Padded c = put_right c.in-Padded.is c.a-in-Padded.ensures
+returns-in-A c = let r = c.a.ensures in ⊎_elim (λ e. put_right e r) (⊎_elim (λ e. put_right e r) (⊎_elim (λ e. put_right e r) (λ e. put_right e r))) c.in-A.is
 
 pub returns-in-Type81 : goal.returns-in-Type81
 returns-in-Type81 c = put_right c.in-Type81.is (ap (λ l. set l 56 0x81) c.a-in-Type81.ensures)
@@ -45,9 +43,3 @@ returns-in-First13 c = put_right c.in-First13.is c.first_13.ensures
 
 pub returns-in-Tagged17 : goal.returns-in-Tagged17
 returns-in-Tagged17 c = put_right c.in-Tagged17.is c.tagged_17.ensures
-
-pub returns-in-Longest : goal.returns-in-Longest
-returns-in-Longest c = put_right c.in-Longest.is c.a-in-Longest.ensures
-
-pub returns-in-TooLong : goal.returns-in-TooLong
-returns-in-TooLong c = put_right c.in-TooLong.is c.a-in-TooLong.ensures
