@@ -69,7 +69,7 @@ fn segment(first: u8, n: usize, flags: u8) -> [u8; MOST]
 }
 
 // Behind so many headers of which this is the first.
-fn step<R: Print + AllocGlobal>(
+fn step<R: Print>(
     bench: &mut Bench<R>,
     what: &str,
     first: u8,
@@ -85,7 +85,7 @@ fn step<R: Print + AllocGlobal>(
 }
 
 // From a fresh record, under rule 20 for senders of 2001:db8::/32 alone: a chain of at most eight headers is followed.
-pub(crate) fn segments<R: Print + AllocGlobal>(rt: &R) -> io::Result<()> {
+pub(crate) fn segments<R: Print>(rt: &R) -> io::Result<()> {
     let prefix = Prefix {
         address: Wide {
             high: 0x20010DB800000000,
