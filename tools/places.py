@@ -25,7 +25,8 @@ def enums():
             if len(cases) == 2 and any("(" in c or "{" in c for c in cases):
                 yield f, "enum " + m.group(1)
         for m in re.finditer(r"struct (\w+) \{\s*pub number: u8", code(t)):
-            yield f, "number " + m.group(1)
+            if re.search(r"impl " + m.group(1) + r" \{\s*pub const", code(t)):
+                yield f, "a number with constants: struct " + m.group(1)
         for m in re.finditer(r"fn (\w+)[^{]*-> (?:isize|io::Result<bool>)", code(t)):
             yield f, "told by a number or a flag: fn " + m.group(1)
 
@@ -33,7 +34,7 @@ def enums():
 def twins():
     groups = collections.defaultdict(set)
     for f, t in TEXT.items():
-        for m in re.finditer(r"\b(?:fn|struct|enum|type) (\w+)", code(t)):
+        for m in re.finditer(r"\b(?:fn|struct|enum|type) ([A-Za-z_]\w*)", code(t)):
             name = m.group(1)
             base = re.sub(r"\d+", "#", name)
             if base != name:

@@ -1,7 +1,7 @@
 // Addresses: 128 bits as two words, an address and its kind, and prefixes, of which only the leading bits are compared.
 #![tactic(auto)]
 
-ghost use Rattle.std.specs.Prelude.{◌≡◌, ℕ, ◌+◌, ◌*◌, ◌^◌, ◌≤◌, length, refl};
+ghost use Rattle.std.specs.Prelude.{◌≡◌, ℕ, ◌+◌, ◌*◌, ◌^◌, ◌≤◌, length};
 ghost use Rattle.addresses.specs.Addresses.{value_of, wide_at, low32, same_address};
 ghost use Rattle.addresses.specs.Prefixes.{prefix_agrees};
 
@@ -56,48 +56,30 @@ pub fn same_address(a: Address, b: Address) -> bool
 pub trait Bits: Copy {
     ghost width: { ℕ };
 
-    const WIDTH: u8;
-
-    ghost WIDTH: { ℕ };
-
     ghost number: { Self → ℕ };
 
     fn prefix_agrees(n: u8, a: Self, b: Self) -> bool
         ensures { result ≡ prefix_agrees width n (number a) (number b) };
-
-    ghost is_width: { WIDTH ≡ width };
 }
 
 impl Bits for u32 {
     ghost width = { 32 };
 
-    const WIDTH: u8 = 32;
-
-    ghost WIDTH = { 32 };
-
     ghost number = { λ a. a };
 
     fn prefix_agrees(n: u8, a: u32, b: u32) -> bool {
-        word_agrees(Self::WIDTH, n, u64::from(a), u64::from(b))
+        word_agrees(32, n, u64::from(a), u64::from(b))
     }
-
-    ghost is_width = { refl };
 }
 
 impl Bits for Wide {
     ghost width = { 128 };
-
-    const WIDTH: u8 = 128;
-
-    ghost WIDTH = { 128 };
 
     ghost number = { value_of };
 
     fn prefix_agrees(n: u8, a: Wide, b: Wide) -> bool {
         words_agree(n, a.high, a.low, b.high, b.low)
     }
-
-    ghost is_width = { refl };
 }
 
 // Over two words: a prefix ends in the upper one, or the upper ones are the same and it ends in the lower.

@@ -5,7 +5,7 @@ ghost use Rattle.std.specs.Prelude.{◌≡◌, cond, suc, ◌<◌, ◌≤◌};
 ghost use Rattle.numbers.specs.Lists.{leading};
 ghost use Rattle.table.specs.Table.{most_rules, most_states, marked as marked_at};
 ghost use Rattle.table.specs.Words.{rule_in, table_in};
-ghost use Rattle.layers.specs.Seen.{seen_of};
+ghost use Rattle.layers.specs.Seen.{seen_in};
 ghost use Rattle.matching.specs.Matching.{layer_tests};
 ghost use Rattle.deciding.specs.Best.{best_of, decision_of};
 
@@ -39,7 +39,7 @@ const WHOLE: usize = LAYERS + 1;
 // One more than the layers matched of an active rule, and 0 for one that is not active.
 fn score(r: &RuleWords, marks: u64, i: usize, x: &Seen) -> usize
     requires { i < most_rules }
-    ensures { result ≡ cond (marked_at marks i) (suc (leading (layer_tests (rule_in r.now) (seen_of x.now)))) 0 }
+    ensures { result ≡ cond (marked_at marks i) (suc (leading (layer_tests (rule_in r.now) (seen_in x.now)))) 0 }
 {
     if !marked(marks, i) {
         return 0;
@@ -52,7 +52,7 @@ fn score(r: &RuleWords, marks: u64, i: usize, x: &Seen) -> usize
 fn best_fit(t: &TableWords, state: usize, x: &Seen) -> Best
     requires state { state < most_states }
     requires rules { (table_in t.now).rulecount ≤ most_rules }
-    ensures { result ≡ best_of (table_in t.now) state (seen_of x.now) }
+    ensures { result ≡ best_of (table_in t.now) state (seen_in x.now) }
 {
     let marks = marks_of(t, state);
     let mut place = RULES;
@@ -83,7 +83,7 @@ fn best_fit(t: &TableWords, state: usize, x: &Seen) -> Best
 pub fn decide(t: &TableWords, state: usize, x: &Seen) -> Decision
     requires state { state < most_states }
     requires rules { (table_in t.now).rulecount ≤ most_rules }
-    ensures { result ≡ decision_of (table_in t.now) state (seen_of x.now) }
+    ensures { result ≡ decision_of (table_in t.now) state (seen_in x.now) }
 {
     let best = best_fit(t, state, x);
     let decider = if best.layer == LAYERS {

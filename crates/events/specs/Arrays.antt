@@ -1,6 +1,6 @@
 -- Every event is its heading and at most one array: how long each event is, and the header that its array shows.
 -- Assumes nothing.
-use Rattle.std.specs.Prelude.{ℕ, List, ◌++◌}
+use Rattle.std.specs.Prelude.{ℕ, List, ◌++◌, Option, Some, None}
 use Rattle.packets.specs.Ipv6.{ipv6_bytes}
 use Rattle.packets.specs.declared.Ip.{Ip}
 use Rattle.packets.specs.declared.Ip.TheVariants as ip
@@ -8,7 +8,6 @@ use Rattle.payloads.specs.declared.Transport.{Transport}
 use Rattle.payloads.specs.declared.Transport.TheVariants as transport
 use Rattle.payloads.specs.Someip.{someip_bytes}
 use Rattle.payloads.specs.declared.Bundle.{Bundle}
-use Rattle.std.specs.Prelude.{Option, Some, None}
 use Rattle.layers.specs.declared.Layers.{Layers}
 use Rattle.events.specs.Events.{word16, part}
 use Rattle.events.specs.declared.Event.{Event}

@@ -1,7 +1,7 @@
 -- The event's bytes: 001 section 7.6.1, as document 01, 'Verdicts, events, refusals', fixes it.
 -- s is a frame's bytes, x what is seen of it, id the rule id that the event names.
 -- Assumes nothing.
-use Rattle.std.specs.Prelude.{ℕ, ◌/◌, ◌%◌, List, [], ◌∷◌, ◌++◌, cond, take, drop, eqb}
+use Rattle.std.specs.Prelude.{ℕ, ◌/◌, ◌%◌, List, [], ◌∷◌, ◌++◌, cond, take, drop, eqb, Option}
 use Rattle.numbers.specs.Lists.{every, copies}
 use Rattle.packets.specs.Ipv6.{ipv6_bytes}
 use Rattle.packets.specs.declared.Ip.{Ip}
@@ -9,7 +9,6 @@ use Rattle.packets.specs.declared.Ip.TheVariants as ip
 use Rattle.payloads.specs.declared.Transport.{Transport}
 use Rattle.payloads.specs.declared.Transport.TheVariants as transport
 use Rattle.payloads.specs.declared.Bundle.{Bundle}
-use Rattle.std.specs.Prelude.{Option}
 use Rattle.payloads.specs.declared.Message.{Message}
 use Rattle.payloads.specs.Someip.{someip_bytes, messages_of}
 use Rattle.layers.specs.Seen.{Seen}

@@ -80,7 +80,7 @@ fn state_good(t: &TableWords, rulecount: usize, k: usize) -> bool
     requires state { k < most_states }
     ensures { result ≡ state_good rulecount (table_in t.now).states k }
 {
-    action_good(default_of(t, k)) & marks_good(rulecount, marks_of(t, k))
+    action_good(default_of(t, k)) && marks_good(rulecount, marks_of(t, k))
 }
 
 // Each state that there is.

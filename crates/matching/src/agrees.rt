@@ -1,4 +1,4 @@
-// Does one setting agree with what a frame shows?
+// Does one setting agree with what a frame shows? Both sides of an `&` cost nothing here, and the compiler need not jump.
 ghost use Rattle.std.specs.Prelude.{◌≡◌};
 ghost use Rattle.table.specs.Settings.{agrees, in_range, prefix_of, same_kind};
 ghost use Rattle.matching.specs.Matching.{number_agrees};

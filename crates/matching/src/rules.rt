@@ -3,7 +3,7 @@ ghost use Rattle.std.specs.Prelude.{◌≡◌, Some};
 ghost use Rattle.numbers.specs.Lists.{every, leading};
 ghost use Rattle.payloads.specs.Someip.{messages_of};
 ghost use Rattle.payloads.specs.Inside.{BundleInside, SomeipInside};
-ghost use Rattle.layers.specs.Seen.{seen_of};
+ghost use Rattle.layers.specs.Seen.{seen_in};
 ghost use Rattle.matching.specs.Matching.{
   tag_tests,
   link_matches,
@@ -33,8 +33,8 @@ pub(crate) fn tag_agrees(r: LinkSettings, tag: Option<Tag>) -> bool
     ensures { result ≡ every (tag_tests r tag) }
 {
     match tag {
-        None => r.vlan.is_unset() & r.priority.is_unset(),
-        Some(t) => agrees(r.vlan, t.vlan) & agrees(r.priority, t.priority),
+        None => r.vlan.is_unset() && r.priority.is_unset(),
+        Some(t) => agrees(r.vlan, t.vlan) && agrees(r.priority, t.priority),
     }
 }
 
@@ -98,7 +98,7 @@ pub(crate) fn transport_matches(r: TransportSettings, x: Transport) -> bool
     ensures { result ≡ transport_matches r x }
 {
     match x {
-        Transport::Absent => { r.kind.is_unset() & r.source.is_unset() & r.destination.is_unset() }
+        Transport::Absent => r.kind.is_unset() && r.source.is_unset() && r.destination.is_unset(),
         Transport::Tcp(t) => ports_agree(r, Kind::Tcp, t.source, t.destination),
         Transport::Udp(u) => ports_agree(r, Kind::Udp, u.source, u.destination),
     }
@@ -150,7 +150,7 @@ pub(crate) fn someip_matches(r: &RuleWords, s: &[u8], x: Option<Bundle>) -> bool
 // The layers that match, from link upward to the first that does not.
 #[tactic(auto, unfolding(crate::specs::Matching::layer_tests))]
 pub fn layers_matched(r: &RuleWords, x: &Seen) -> usize
-    ensures { result ≡ leading (layer_tests (rule_in r.now) (seen_of x.now)) }
+    ensures { result ≡ leading (layer_tests (rule_in r.now) (seen_in x.now)) }
 {
     if !link_matches(words::link(r), x.second, x.layers.link) {
         return 0;

@@ -1,4 +1,4 @@
-// The bytes of the frames.
+// The bytes of the frames. The line below names, for all functions here, the definitions that a proof computes: a frame's bytes are what they say.
 #![tactic(auto, unfolding(crate::specs::Frames::hex, crate::specs::Frames::frame_a, crate::specs::Frames::padded, crate::specs::Frames::with_type, crate::specs::Frames::with_port, crate::specs::Frames::frame0806, crate::specs::Frames::tcp, crate::specs::Frames::ack1, crate::specs::Frames::syn_ack1, crate::specs::Frames::syn1, crate::specs::Frames::syn2, crate::specs::Frames::syn3, crate::specs::Frames::first13, crate::specs::Frames::tagged17, crate::specs::Frames::frame_bytes, crate::specs::Frames::laid))]
 
 ghost use Rattle.std.specs.Prelude.{◌≡◌, ◌≤◌, length, set};

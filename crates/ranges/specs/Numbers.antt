@@ -1,8 +1,7 @@
 -- The numbers of a rule's settings, in the paper's order, by which a refused table names one (change request 1/12). The papers give none: these are
 -- the case stream's (docs/CASES.md), and one that comes later takes the next number wherever it stands in the order. A number never changes once given.
 -- Assumes nothing.
-use Rattle.std.specs.Prelude.{ℕ}
-use Rattle.std.specs.Prelude.{Option, Some, None}
+use Rattle.std.specs.Prelude.{ℕ, Option, Some, None}
 use Rattle.ranges.specs.declared.setting_number.SettingNumber.{SettingNumber}
 use Rattle.ranges.specs.declared.setting_number.SettingNumber.TheVariants as setting
 

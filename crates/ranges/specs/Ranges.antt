@@ -1,7 +1,6 @@
 -- When a rule is bad by itself: its settings in the paper's order, each with its test. Document 01, 'Rules and vehicle states'; change requests 1/12, 2/12 and 6/12.
 -- Assumes nothing.
-use Rattle.std.specs.Prelude.{Result, Ok, Err, ⊤}
-use Rattle.std.specs.Prelude.{ℕ, List, [], ◌∷◌, ◌++◌, Bool, true, false, cond, ◌&&◌, ◌||◌, not, leb}
+use Rattle.std.specs.Prelude.{Result, Ok, Err, ⊤, ℕ, List, [], ◌∷◌, ◌++◌, Bool, true, false, cond, ◌&&◌, ◌||◌, not, leb}
 use Rattle.numbers.specs.Lists.{every, every_of}
 use Rattle.table.specs.Settings.{is_unset, within, paired}
 use Rattle.table.specs.declared.Setting.{Setting}

@@ -39,7 +39,7 @@ const IPV4_BITS: u8 = 32;
 
 const IPV6_BITS: u8 = 128;
 
-// The test of one setting, which is at fault where it fails.
+// The test of one setting, which is at fault where it fails. Both sides of an `&` cost nothing here and below, and the compiler need not jump.
 fn test(good: bool, setting: SettingNumber) -> Result<(), SettingNumber>
     ensures { result ≡ fault_in (test_of setting good ∷ []) }
 {
@@ -143,7 +143,7 @@ fn part_fault(s: TrackingSettings, may: bool) -> Result<(), SettingNumber>
     )
 }
 
-// The same where all four are set: each within its range, and only on a rule that may track.
+// The same where all four are set: each within its range, and only on a rule that may track. Of its own, since the four read one by one cost more (docs/PERFORMANCE.md).
 fn room_fault(m: Room, may: bool) -> Result<(), SettingNumber>
     ensures { result ≡ fault_in (part_tests (all_of m) may) }
 {

@@ -7,7 +7,7 @@ ghost use Rattle.ranges.specs.Ranges.{setting_of, rule_tests};
 // How many settings a rule has, its id and its action among them.
 pub const SETTINGS: usize = 28;
 
-// In the paper's order of settings, each with its number.
+// The settings, in the paper's order, each with its number: a refused table names one by it.
 #[derive(Clone, Copy, PartialEq, Eq)]
 pub enum SettingNumber {
     Id = 0,

@@ -1,4 +1,4 @@
-// Is the value of one setting within its range?
+// Is the value of one setting within its range? Both sides of an `&` cost nothing here, and the compiler need not jump.
 ghost use Rattle.std.specs.Prelude.{◌≡◌};
 ghost use Rattle.table.specs.Settings.{within};
 ghost use Rattle.table.specs.Table.{most_places};
@@ -11,6 +11,7 @@ pub(crate) const MOST_PLACES: u8 = PLACES as u8;
 
 pub(crate) const MOST_LIMIT: u32 = 600000;
 
+// Two, and not one over the type: the definition from_to is of numbers, and what a value of any type is as a number no bound says.
 pub(crate) fn places_good(s: Setting<u8>) -> bool
     ensures { result ≡ within (from_to 1 most_places) s }
 {

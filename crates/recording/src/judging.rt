@@ -16,6 +16,7 @@ pub(crate) fn begin(t: &TableWords, place: u64, time: u64, words: &mut RecordWor
     ensures { words.new ≡ begun (table_in t.now) (run place words.old) time }
 {
     if place == 0 {
+        // The answer is not looked at: `begun` says what the words are, whatever it is.
         let _ = firewall::fresh(t, time, words);
     }
 }

@@ -1,12 +1,11 @@
 -- The bytes that an input has left and those that an output holds, where they are known.
 -- Assumes nothing.
-use Rattle.std.proofs.Common.{◌≡◌, ℕ, zero, suc, ◌<◌, min, true, List, [], ◌++◌, length, take, Option, None, Some, refl, sym, ap, subst, ◌∙◌, arith, ℤ, pos, negsuc}
+use Rattle.std.proofs.Common.{◌≡◌, ℕ, min, List, [], ◌++◌, length, take, Option, None, Some, refl, sym, ap, subst, ◌∙◌, arith, ◌-◌, Result, Ok, Err}
 use mathlib.Core.List.{append_assoc, append-nil}
-use mathlib.Core.Bool.{false≢true}
 use Rattle.std.specs.Io.{ReadsAtMost}
-use Rattle.std.specs.Io.KnownBytes.{Keeps, Consumes, Appends, IsAtEnd, ReadConsumes}
-use Rattle.io.specs.Counts.{clamp_len}
-use Rattle.replay.specs.Position.{is_end, answer_of}
+use Rattle.std.specs.Io.KnownBytes.{Keeps, Consumes, Appends, ReadConsumes}
+use Rattle.std.specs.Result.{result_ok}
+use Rattle.replay.specs.Position.{buffer_size, came_of}
 
 pub takes_none : (a : Option (List ℕ)) → Consumes a a []
 takes_none None = tt
@@ -35,16 +34,9 @@ keeps_all (Some u) (Some v) h = sym h
 
 -- what came was the next of the input
 pub takes_came :
-    (a b : Option (List ℕ)) (got : ℤ) (l : List ℕ) → ReadsAtMost (answer_of got) l → ReadConsumes a b (answer_of got) l
-    → Consumes a b (take (clamp_len got (length l)) l)
-takes_came a b (pos n) l most h =
-    let e : n ≡ min n (length l) = omega (arith, most.0) in
-    subst (λ k. Consumes a b (take k l)) e h.0
-takes_came a b (negsuc n) l most h = keeps_all a b h
-
--- and the end is the end of the input
-pub takes_all :
-    (a b : Option (List ℕ)) (got : ℤ) (l : List ℕ) → 0 < length l → ReadConsumes a b (answer_of got) l → is_end got ≡ true → IsAtEnd b
-takes_all a b (pos zero) l some h e = h.1 refl some
-takes_all a b (pos (suc n)) l some h e = absurd (false≢true e)
-takes_all a b (negsuc n) l some h e = absurd (false≢true e)
+    {E : Type 0} (a b : Option (List ℕ)) (r : Result ℕ E) (n : ℕ) (l : List ℕ) → length l ≡ buffer_size - n → ReadsAtMost r l → ReadConsumes a b r l
+    → Consumes a b (take (came_of n (result_ok r)) l)
+takes_came a b (Ok k) n l size most h =
+    let e : k ≡ min k (buffer_size - n) = omega (arith, most.0, size) in
+    subst (λ m. Consumes a b (take m l)) e h.0
+takes_came a b (Err e) n l size most h = keeps_all a b h

@@ -5,13 +5,13 @@ use Rattle.numbers.specs.Lists.{first_from, all_below}
 use Rattle.table.specs.declared.Table.{Table}
 use Rattle.table.specs.Table.{marked}
 use Rattle.ranges.specs.Ranges.{rule_tests}
-use Rattle.faults.specs.declared.Fault.TheVariants as fault
+use Rattle.std.specs.Prelude.{Ok}
 use Rattle.faults.specs.Faults.{fresh_id, faulty, marks_good, states_good, fault_of}
 use Rattle.paper.specs.TableT.{table_t}
 
-pub t_good : fault_of table_t ≡ fault.Good
+pub t_good : fault_of table_t ≡ Ok tt
 unfolding first_from all_below marked rule_tests fresh_id faulty marks_good states_good fault_of table_t
 t_good = refl
 
-pub laid_good : (t : Table) → t ≡ table_t → fault_of t ≡ fault.Good
+pub laid_good : (t : Table) → t ≡ table_t → fault_of t ≡ Ok tt
 laid_good t e = ap fault_of e ∙ t_good

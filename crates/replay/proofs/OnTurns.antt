@@ -1,15 +1,16 @@
 -- Turn after turn: what the loop keeps.
 -- Assumes nothing.
-use Prim.Native.Nat.{ℕ, ◌+◌, ◌-◌, ◌<◌}
-use mathlib.Core.Path.{◌≡◌, refl, sym, subst, ◌∙◌}
-use mathlib.Core.Bool.{Bool, true, false, ◌||◌, true≢false}
+use Prim.Native.Nat.{ℕ, ◌+◌}
+use mathlib.Core.Path.{◌≡◌, refl, subst, ◌∙◌}
+use mathlib.Core.Bool.{Bool, false}
 use mathlib.Core.List.{List, [], ◌∷◌}
 use native.Mathlib.Omega.{arith}
 use lib.ListN.{length}
-use Rattle.std.specs.Prelude.{Option, Result, Ok, Err, OnOk, is_ok, not}
+use Rattle.std.specs.Prelude.{Option}
 use Rattle.std.specs.Io.KnownBytes.{Consumes, Appends}
 use Rattle.table.specs.declared.Table.{Table}
-use Rattle.replay.specs.Position.{most_turns, Standing, text_in, Turned, is_over, led_to, AllTurned, printed_by, came_in, came_by, RunsTo}
+use Rattle.replay.specs.Position.{most_turns, text_in, Turned, is_over, led_to, AllTurned, printed_by, came_in, came_by, RunsTo}
+use Rattle.replay.specs.declared.Standing.{Standing}
 use Rattle.replay.proofs.OnBytes.{takes_none, takes_more, adds_none, adds_more}
 
 -- what an input has left, and what an output holds, at the start and by now
@@ -19,25 +20,25 @@ pub record Ends : Type 0 where
   pub output : Option (List ℕ)
   pub output' : Option (List ℕ)
 
--- the turns so far, where so many are left; what they had to print is printed where the output is not closed
-pub record Turns (t : Table) (x y : Standing) (left : ℕ) (e : Ends) (closed : Bool) : Type 0 where
+-- the turns so far, so many; what they had to print is printed where the output is not closed
+pub record Turns (t : Table) (x y : Standing) (n : ℕ) (e : Ends) (closed : Bool) : Type 0 where
   pub made : List Standing
   pub each : AllTurned t x made
   pub last : y ≡ led_to x made
-  pub count : length made + left ≡ most_turns
+  pub count : length made ≡ n
   pub took : Consumes e.input e.input' (came_by x made)
   pub told : closed ≡ false → Appends e.output e.output' (printed_by made)
 
-pub start_turns : (t : Table) (x : Standing) (i o : Option (List ℕ)) → Turns t x x most_turns (record { input = i; input' = i; output = o; output' = o }) false
+pub start_turns : (t : Table) (x : Standing) (i o : Option (List ℕ)) → Turns t x x 0 (record { input = i; input' = i; output = o; output' = o }) false
 start_turns t x i o =
     record { made = []; each = tt; last = refl; count = omega arith; took = takes_none i; told = λ c. adds_none o }
 
 pub next_turns :
-    {t : Table} {x y : Standing} {left : ℕ} {e : Ends} (r : Turns t x y left e false) (closed : Bool) (z : Standing) (i o : Option (List ℕ))
-    → 0 < left → is_over y.position ≡ false → Turned t y z → Consumes e.input' i (came_in y z)
+    {t : Table} {x y : Standing} {n : ℕ} {e : Ends} (r : Turns t x y n e false) (closed : Bool) (z : Standing) (i o : Option (List ℕ))
+    → is_over y.position ≡ false → Turned t y z → Consumes e.input' i (came_in y z)
     → (closed ≡ false → Appends e.output' o (text_in z))
-    → Turns t x z (left - 1) (record { input = e.input; input' = i; output = e.output; output' = o }) closed
-next_turns {t = t} {x = x} {e = e} r closed z i o some goes turned takes adds = record {
+    → Turns t x z (n + 1) (record { input = e.input; input' = i; output = e.output; output' = o }) closed
+next_turns {t = t} {x = x} {e = e} r closed z i o goes turned takes adds = record {
   made = z ∷ r.made;
   each = ((subst (λ (u : Standing). is_over u.position ≡ false) r.last goes, subst (λ (u : Standing). Turned t u z) r.last turned), r.each);
   last = refl;
@@ -48,30 +49,12 @@ next_turns {t = t} {x = x} {e = e} r closed z i o some goes turned takes adds = 
   told = λ c. adds_more e.output e.output' o (printed_by r.made) (text_in z) (r.told refl) (adds c);
 }
 
-module _ {t : Table} {x y : Standing} {left : ℕ} {e : Ends} {shut : Bool} (r : Turns t x y left e shut) where
+module _ {t : Table} {x y : Standing} {n : ℕ} {e : Ends} {shut : Bool} (r : Turns t x y n e shut) where
   -- a run that stops
-  pub ran : (closed : Bool) → (closed ≡ false → is_over y.position ≡ false → left ≡ 0) → RunsTo t x y closed
+  pub ran : (closed : Bool) → (closed ≡ false → is_over y.position ≡ false → n ≡ most_turns) → RunsTo t x y closed
   ran closed why = record {
     turns = r.made;
     each = r.each;
     last = r.last;
-    stops = λ c o. let z : left ≡ 0 = why c o in omega (arith, r.count);
+    stops = λ c o. r.count ∙ why c o;
   }
-
--- it stops where the output is closed or it is over, and goes on elsewhere
-pub is_stopped : (a b o : Bool) → b ≡ o → (a || b) ≡ true → a ≡ false → o ≡ false → ⊥
-is_stopped true b o e h c f = true≢false c
-is_stopped false b o e h c f = true≢false (sym h ∙ (e ∙ f))
-
-pub goes_on_lem : (a b o : Bool) → b ≡ o → (a || b) ≡ false → o ≡ false
-goes_on_lem true b o e h = absurd (true≢false h)
-goes_on_lem false b o e h = sym e ∙ h
-
-pub is_open : (a b : Bool) → (a || b) ≡ false → a ≡ false
-is_open true b h = absurd (true≢false h)
-is_open false b h = refl
-
--- what was to be printed is printed where the output is not closed
-pub was_printed : {E : Type 0} {P : Type 0} (r : Result (Unit {0}) E) (b : Bool) → b ≡ is_ok r → OnOk r P → not b ≡ false → P
-was_printed (Ok u) b e h n = h
-was_printed (Err x) b e h n = absurd (true≢false (rw e at n))

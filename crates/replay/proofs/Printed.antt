@@ -8,10 +8,9 @@ use native.Mathlib.Nat.{sub-zero, zero-sub, add-zero}
 use native.Mathlib.Omega.{arith}
 use lib.ListN.{length, take, drop, take-append-drop}
 use lib.Seq.{take-append_seam, take-nil, drop-drop}
-use lib.IntN.{ℤ, pos, negsuc}
-use borrow.Author.Tests.{eqb-true}
+use borrow.Author.Tests.{eqb-true, ne_eqb}
+use Rattle.std.specs.Prelude.{Option, None, Some}
 use Rattle.std.specs.Io.KnownBytes.{Appends, IsAtEnd}
-use Rattle.io.specs.Counts.{clamp_len}
 use Rattle.numbers.specs.Lists.{joined, ends, said}
 use Rattle.numbers.proofs.Elements.{ends_append, said_append}
 use Rattle.numbers.proofs.Tests.{by_test}
@@ -26,8 +25,9 @@ use Rattle.recording.specs.Run.{run, text_of_all, text_from, end_text, printed}
 use Rattle.recording.specs.Feed.{fed_of}
 use Rattle.recording.specs.ByParts.{Going, at_start, advance, writes}
 use Rattle.recording.proofs.Whole.{by_parts}
-use Rattle.replay.specs.Position.{buffer_size, most_moves, Standing, standing, rest_in, rest_of, text_in, is_end, last_text, came_of, Came, is_done, call_of, called, Turned, is_over, led_to, AllTurned, printed_by, came_in, came_by, first, PrintsTheWhole, Prints}
+use Rattle.replay.specs.Position.{most_moves, standing, rest_in, rest_of, text_in, is_end, last_text, came_of, Came, is_done, call_of, called, Turned, is_over, led_to, AllTurned, printed_by, came_in, came_by, first, PrintsTheWhole, Prints}
 use Rattle.replay.specs.declared.Position.{Position}
+use Rattle.replay.specs.declared.Standing.{Standing}
 use Rattle.replay.proofs.OnTable.{t_good}
 use Rattle.replay.proofs.OnTurns.{Ends, Turns}
 
@@ -79,10 +79,10 @@ record Step (t : Table) (x y : Standing) : Type 0 where
 
 -- ---- bytes came
 
-end_none : (got : ℤ) (m : ℕ) → is_end got ≡ true → clamp_len got m ≡ 0
-end_none (pos zero) m h = omega arith
-end_none (pos (suc n)) m h = absurd (false≢true h)
-end_none (negsuc n) m h = absurd (false≢true h)
+end_none : (got : Option ℕ) (n : ℕ) → is_end got ≡ true → came_of n got ≡ 0
+end_none None n h = absurd (false≢true h)
+end_none (Some zero) n h = omega arith
+end_none (Some (suc k)) n h = absurd (false≢true (sym (ne_eqb (suc k) 0 (λ z. omega (arith, z))) ∙ h))
 
 module _ (x y : Standing) (c : Came x y) where
   rest_came : rest_of y ≡ rest_of x ++ drop (length (rest_of x)) (rest_of y)
@@ -105,7 +105,7 @@ module _ (x y : Standing) (c : Came x y) where
   last_came =
       let e : y.position.ended ≡ is_end c.got = ap (λ (p : Position). p.ended) c.position in
       rw (state_same, e)
-      (by_test (is_end c.got) (λ h. ap (λ l. last_text x.position.state (length l) (is_end c.got)) (sym (none_came (end_none c.got (buffer_size - length (rest_of x)) h)))) (λ h. rw h))
+      (by_test (is_end c.got) (λ h. ap (λ l. last_text x.position.state (length l) (is_end c.got)) (sym (none_came (end_none c.got (length (rest_of x)) h)))) (λ h. rw h))
 
   came_step : (t : Table) → x.position.more ≡ true → Step t x y
   unfolding advance go_on finds writes text_of_all
@@ -118,7 +118,7 @@ module _ (x y : Standing) (c : Came x y) where
     text = c.text ∙ last_came;
     came = rw more (sym (append-nil (drop (length (rest_of x)) (rest_of y))));
     rests = λ w m. still w more (eqb-true (came_of (length (rest_of x)) c.got) 0 (sym (ap (λ (p : Position). p.more) c.position) ∙ m));
-    ends = λ w m. still w more (end_none c.got (buffer_size - length (rest_of x)) (sym (ap (λ (p : Position). p.ended) c.position) ∙ m));
+    ends = λ w m. still w more (end_none c.got (length (rest_of x)) (sym (ap (λ (p : Position). p.ended) c.position) ∙ m));
   }
 
 -- ---- a call was made
@@ -227,11 +227,11 @@ prints_the_whole buf w out l each ended =
 
 -- what a run says of the bytes
 pub run_prints :
-    (t : Table) (buf : List ℕ) (w : Lent) (out : List ℕ) (y : Standing) (left : ℕ) (e : Ends) (closed : Bool)
-    → t ≡ table_t → Turns t (standing first buf w out) y left e closed
+    (t : Table) (buf : List ℕ) (w : Lent) (out : List ℕ) (y : Standing) (n : ℕ) (e : Ends) (closed : Bool)
+    → t ≡ table_t → Turns t (standing first buf w out) y n e closed
     → (y.position.ended ≡ true → is_done y.position.state ≡ false → IsAtEnd e.input')
     → Prints w y.position closed e.input e.input' e.output e.output'
-run_prints t buf w out y left e closed same r all = record {
+run_prints t buf w out y n e closed same r all = record {
   came = came_by (standing first buf w out) r.made;
   taken = r.took;
   all = all;

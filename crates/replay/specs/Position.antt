@@ -1,9 +1,7 @@
 -- The program, turn by turn; each turn is one thing that happens in the theorem `ByParts`.
 -- Assumes nothing.
-use Rattle.std.specs.Prelude.{ℕ, zero, suc, ◌+◌, ◌-◌, ◌/◌, ◌<◌, ◌≤◌, ◌≡◌, Bool, true, false, cond, ◌||◌, List, [], ◌∷◌, ◌++◌, length, take, drop, ℤ, pos, negsuc, eqb}
-use Rattle.std.specs.Prelude.{Option, Result, Ok, Err}
+use Rattle.std.specs.Prelude.{ℕ, ◌+◌, ◌-◌, ◌/◌, ◌<◌, ◌≤◌, ◌≡◌, min, Bool, true, false, cond, ◌||◌, List, [], ◌∷◌, ◌++◌, length, take, drop, eqb, Option, None, Some}
 use Rattle.std.specs.Io.KnownBytes.{Consumes, Appends, IsAtEnd}
-use Rattle.io.specs.Counts.{clamp_len}
 use Rattle.table.specs.declared.Table.{Table}
 use Rattle.paper.specs.TableT.{table_t}
 use Rattle.records.specs.Records.{Lent}
@@ -15,6 +13,7 @@ use Rattle.lines.specs.Lines.{line_room}
 use Rattle.recording.specs.Run.{run, end_text, printed}
 use Rattle.recording.specs.Feed.{AfterFeed, fed_of}
 use Rattle.replay.specs.declared.Position.{Position}
+use Rattle.replay.specs.declared.Standing.{Standing}
 
 -- the bytes of the buffer; the moves of one call: as many as lines have room in the output, which has as many bytes
 abbrev pub buffer_size : ℕ
@@ -28,12 +27,6 @@ abbrev pub most_turns : ℕ
 most_turns = 18014398509481984
 
 -- ---- where the program stands: its position, the bytes of the buffer, the words of the records, the bytes of the output
-
-pub record Standing : Type 0 where
-  pub position : Position
-  pub buffer : List ℕ
-  pub words : Lent
-  pub out : List ℕ
 
 -- made of its parts
 abbrev pub standing : Position → List ℕ → Lent → List ℕ → Standing
@@ -56,32 +49,27 @@ pub record Sound (p : Position) : Type 0 where
   pub inside : p.end ≤ buffer_size
   pub short : p.more ≡ true → p.end - p.at < head_size + longest
 
--- ---- a read; it answers 0 at the end of the input, below 0 where it failed, else how many bytes came
+-- ---- a read, by how many bytes it brought, 0 at the end of the input; none is told where it failed, nor why
 
-abbrev pub is_end : ℤ → Bool
-is_end (pos zero) = true
-is_end (pos (suc n)) = false
-is_end (negsuc n) = false
+abbrev pub is_end : Option ℕ → Bool
+is_end None = false
+is_end (Some n) = eqb n 0
 
-abbrev pub is_failure : ℤ → Bool
-is_failure (pos n) = false
-is_failure (negsuc n) = true
-
--- what `read` answered, of which that is the number; why it failed is not told
-abbrev pub answer_of : ℤ → Result ℕ (Unit {0})
-answer_of (pos n) = Ok n
-answer_of (negsuc n) = Err tt
+abbrev pub is_failure : Option ℕ → Bool
+is_failure None = true
+is_failure (Some n) = false
 
 -- what the end adds, with n bytes kept
 abbrev pub last_text : State → ℕ → Bool → List ℕ
 last_text st n ended = cond ended (end_text st n) []
 
 -- so many bytes came, behind n that were kept
-abbrev pub came_of : ℕ → ℤ → ℕ
-came_of n got = clamp_len got (buffer_size - n)
+abbrev pub came_of : ℕ → Option ℕ → ℕ
+came_of n None = 0
+came_of n (Some k) = min k (buffer_size - n)
 
 -- the position then
-abbrev pub arrived_as : Position → ℕ → ℤ → Position
+abbrev pub arrived_as : Position → ℕ → Option ℕ → Position
 arrived_as p n got = record {
   state = p.state;
   place = p.place;
@@ -93,13 +81,9 @@ arrived_as p n got = record {
   failed = is_failure got;
 }
 
--- the bytes that a read brought, behind those that were kept
-abbrev pub brought : Position → List ℕ → Position → List ℕ → List ℕ
-brought p buf q filled = drop (length (rest_in p buf)) (rest_in q filled)
-
 -- from x to y a read answered `got`: what was not used is kept, and what came stands behind it
 pub record Came (x y : Standing) : Type 0 where
-  pub got : ℤ
+  pub got : Option ℕ
   pub position : y.position ≡ arrived_as x.position (length (rest_of x)) got
   pub kept : take (length (rest_of x)) (rest_of y) ≡ rest_of x
   pub words : y.words ≡ x.words

@@ -4,7 +4,7 @@
 ghost use Rattle.std.specs.Prelude.{◌≡◌, ◌≤◌, length};
 ghost use Rattle.numbers.specs.Lists.{Wrote};
 ghost use Rattle.layers.specs.Layers.{least};
-ghost use Rattle.layers.specs.Seen.{seen_of};
+ghost use Rattle.layers.specs.Seen.{seen_in};
 ghost use Rattle.table.specs.Table.{most_rules};
 ghost use Rattle.table.specs.Words.{table_in};
 ghost use Rattle.deciding.specs.Best.{best_of};
@@ -112,14 +112,14 @@ fn event_for(v: Verdict) -> Report
     }
 }
 
-// The mismatch event of the best fit. With no active rule: link and 65,535. The socket is for the promise alone, here and below: no event shows it.
+// The mismatch event of the best fit. With no active rule: link and 65,535.
 #[tactic(auto, using(table::proofs::Rows::rule_at_lem, crate::proofs::Laws::best_rule, crate::proofs::Laws::wrote))]
 fn write_best(t: &TableWords, state: usize, best: Best, x: &Seen, space: &mut [u8]) -> usize
     requires rules { (table_in t.now).rulecount ≤ most_rules }
-    requires best { best ≡ best_of (table_in t.now) state (seen_of x.now) }
+    requires best { best ≡ best_of (table_in t.now) state (seen_in x.now) }
     requires long { least ≤ length x.now.frame.now }
     requires room { event_room ≤ length space.old }
-    ensures { Wrote (best_event (table_in t.now) state (seen_of x.now)) space.old space.new result }
+    ensures { Wrote (best_event (table_in t.now) state (seen_in x.now)) space.old space.new result }
 {
     if best.place < DEFAULT {
         let rule = &t[best.place];
@@ -139,10 +139,10 @@ fn write_event(
     space: &mut [u8],
 ) -> usize
     requires rules { (table_in t.now).rulecount ≤ most_rules }
-    requires best { best ≡ best_of (table_in t.now) state (seen_of x.now) }
+    requires best { best ≡ best_of (table_in t.now) state (seen_in x.now) }
     requires long { least ≤ length x.now.frame.now }
     requires room { event_room ≤ length space.old }
-    ensures { Wrote (event_of (table_in t.now) state (seen_of x.now) d (verdict_number v)) space.old space.new result }
+    ensures { Wrote (event_of (table_in t.now) state (seen_in x.now) d (verdict_number v)) space.old space.new result }
 {
     match event_for(v) {
         Report::Nothing => 0,
@@ -159,10 +159,10 @@ pub fn step(
     words: &mut RecordWords,
     space: &mut [u8],
 ) -> Answer
-    requires { Ready (table_in t.now) words.old (seen_of x.now) space.old }
+    requires { Ready (table_in t.now) words.old (seen_in x.now) space.old }
     ensures outcome { stepped result words.new space.new
-        ≡ stepped_as (outcome_of (table_in t.now) (records_of words.old) reading (seen_of x.now)) space.old }
-    ensures records { records_of words.new ≡ (outcome_of (table_in t.now) (records_of words.old) reading (seen_of x.now)).records }
+        ≡ stepped_as (outcome_of (table_in t.now) (records_of words.old) reading (seen_in x.now)) space.old }
+    ensures records { records_of words.new ≡ (outcome_of (table_in t.now) (records_of words.old) reading (seen_in x.now)).records }
 {
     let state = words.head[ACTIVE] as usize;
     let g = turn(x.second, x.layers.ip, x.layers.transport);

@@ -1,6 +1,6 @@
 -- Which settings of a layer are unset, in the paper's order: a layer's match and the marks of its word go by it.
 -- Assumes nothing.
-use Rattle.std.specs.Prelude.{List, [], ◌∷◌, ◌++◌, Bool}
+use Rattle.std.specs.Prelude.{List, [], ◌∷◌, ◌++◌, Bool, ℕ}
 use Rattle.table.specs.Settings.{is_unset}
 use Rattle.table.specs.declared.LinkSettings.{LinkSettings}
 use Rattle.table.specs.declared.TransportSettings.{TransportSettings}
@@ -9,7 +9,6 @@ use Rattle.table.specs.declared.RateSettings.{RateSettings}
 use Rattle.table.specs.declared.TrackingSettings.{TrackingSettings}
 use Rattle.addresses.specs.declared.Wide.{Wide}
 use Rattle.table.specs.declared.IpSettings.{IpSettings}
-use Rattle.std.specs.Prelude.{ℕ}
 
 abbrev pub link_unset : LinkSettings → List Bool
 link_unset s =

@@ -1,6 +1,6 @@
 // A table, and records that it judges frames with, each on a line of the page.
 use crate::page;
-use crate::page::{Example, Records};
+use crate::page::{Example, Records, Text};
 use crate::words::RefusalWords;
 use events::ROOM;
 use firewall::Refusal;
@@ -59,7 +59,7 @@ pub(crate) struct Bench<'a, R> {
     pub words: RecordWords,
 }
 
-impl<'a, R: Print + AllocGlobal> Bench<'a, R> {
+impl<'a, R: Print> Bench<'a, R> {
     pub(crate) fn new(rt: &'a R, table: &'a TableWords) -> Bench<'a, R> {
         Bench {
             rt,
@@ -96,15 +96,15 @@ impl<'a, R: Print + AllocGlobal> Bench<'a, R> {
         judged: &Judged,
         last: impl Display + Drop,
     ) -> io::Result<()> {
-        let alloc = self.rt.alloc();
-        let answer = page::answer(alloc, judged, self.table)?;
-        let line = format!(in alloc;
-            "{}{:<30}{:>7}  {answer:<74}{last}",
+        let answer = page::answer(judged, self.table);
+        let line = Text::of(format_args!(
+            "{}{:<30}{:>7}  {:<74}{last}",
             Example(asked.example),
             asked.what,
-            asked.reading
-        )?;
-        println!(self.rt; "{}", line.trim_end())
+            asked.reading,
+            answer.as_str()
+        ));
+        println!(self.rt; "{}", line.as_str().trim_end())
     }
 
     // A frame judged, and its line; the records behind it are those of its socket, unless it is refused, which leaves them as they were.

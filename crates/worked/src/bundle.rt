@@ -76,7 +76,7 @@ impl Display for Shown<'_> {
 }
 
 // So many messages and bytes left over, with one byte of the messages changed.
-fn step<R: Print + AllocGlobal>(
+fn step<R: Print>(
     bench: &mut Bench<R>,
     what: &str,
     n: usize,
@@ -99,7 +99,7 @@ fn step<R: Print + AllocGlobal>(
 }
 
 // From a fresh record: rule 10 wants service 0x1000 and type 0x80 of every message.
-pub(crate) fn bundles<R: Print + AllocGlobal>(bench: &mut Bench<R>) -> io::Result<()> {
+pub(crate) fn bundles<R: Print>(bench: &mut Bench<R>) -> io::Result<()> {
     println!(bench.rt;
         "\nseveral messages in one datagram, to port 30501, each of service 0x1000 and type 0x80"
     )?;

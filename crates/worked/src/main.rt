@@ -20,7 +20,7 @@ use records::RecordWords;
 use std::io;
 
 // One line; was its frame answered as the paper says?
-fn show<R: Print + AllocGlobal>(bench: &mut Bench<R>, l: Line) -> io::Result<bool> {
+fn show<R: Print>(bench: &mut Bench<R>, l: Line) -> io::Result<bool> {
     let mut bytes = [0; MOST];
     let n = frame(l.frame, &mut bytes);
     let judged = bench.show(Asked {
@@ -34,10 +34,7 @@ fn show<R: Print + AllocGlobal>(bench: &mut Bench<R>, l: Line) -> io::Result<boo
 }
 
 // Every line; the first that was not answered as the paper says. The records of the run before the last stay in `before`.
-fn show_all<R: Print + AllocGlobal>(
-    bench: &mut Bench<R>,
-    before: &mut RecordWords,
-) -> io::Result<Option<usize>> {
+fn show_all<R: Print>(bench: &mut Bench<R>, before: &mut RecordWords) -> io::Result<Option<usize>> {
     let mut wrong = None;
     for k in 0..count() {
         let l = line(k);
@@ -57,7 +54,7 @@ fn are_same(a: &RecordWords, b: &RecordWords) -> bool {
 }
 
 // The last two runs are M11 in both orders.
-fn worked_set<R: Print + AllocGlobal>(bench: &mut Bench<R>) -> io::Result<()> {
+fn worked_set<R: Print>(bench: &mut Bench<R>) -> io::Result<()> {
     let rt = bench.rt;
     let mut before = RecordWords::fresh(0);
     let wrong = show_all(bench, &mut before)?;

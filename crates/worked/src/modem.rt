@@ -1,5 +1,5 @@
 // IPv6 from the new modem under table T: beside the worked set, for a person who reads them for the first time.
-ghost use Rattle.std.specs.Prelude.{◌≤◌};
+ghost use Rattle.std.specs.Prelude.{◌≤◌, ◌+◌, length};
 
 use crate::bench::{Asked, Bench, laid};
 use crate::rules::RuleLine;
@@ -21,9 +21,6 @@ const SOURCE: usize = 22;
 const DESTINATION: usize = 38;
 
 const PAYLOAD: usize = 54;
-
-// Where they stand in the segment.
-const SEGMENT_FLAGS: usize = 13;
 
 // Numbers of headers.
 const TCP: u8 = 6;
@@ -47,27 +44,32 @@ fn options(n: usize) -> [u8; MOST]
     bytes
 }
 
+fn put(at: usize, part: &[u8], bytes: &mut [u8; MOST])
+    requires { at + length part.now ≤ 1519 }
+{
+    bytes[at..at + part.len()].copy_from_slice(part);
+}
+
 // From 443 to 50001, between 2001:db8::2 and 2001:db8::1.
 fn segment(first: u8, n: usize, flags: u8) -> [u8; MOST]
     requires { n ≤ 9 }
 {
     let mut bytes = options(n);
-    bytes[ETHER..ETHER + 3].copy_from_slice(&[0x86, 0xDD, 0x60]);
+    put(ETHER, &[0x86, 0xDD, 0x60], &mut bytes);
     bytes[PAYLOAD_LENGTH] = 20 + 8 * n as u8;
     bytes[NEXT] = first;
-    bytes[SOURCE..SOURCE + 4].copy_from_slice(&[0x20, 0x01, 0x0D, 0xB8]);
+    put(SOURCE, &[0x20, 0x01, 0x0D, 0xB8], &mut bytes);
     bytes[SOURCE + 15] = 2;
-    bytes[DESTINATION..DESTINATION + 4].copy_from_slice(&[0x20, 0x01, 0x0D, 0xB8]);
+    put(DESTINATION, &[0x20, 0x01, 0x0D, 0xB8], &mut bytes);
     bytes[DESTINATION + 15] = 1;
     let at = PAYLOAD + 8 * n;
-    bytes[at..at + 4].copy_from_slice(&[1, 187, 195, 81]);
-    bytes[at + 12] = 0x50;
-    bytes[at + SEGMENT_FLAGS] = flags;
+    put(at, &[1, 187, 195, 81], &mut bytes);
+    put(at + 12, &[0x50, flags], &mut bytes);
     bytes
 }
 
 // Behind so many headers of which this is the first.
-fn step<R: Print + AllocGlobal>(
+fn step<R: Print>(
     bench: &mut Bench<R>,
     what: &str,
     first: u8,
@@ -83,7 +85,7 @@ fn step<R: Print + AllocGlobal>(
 }
 
 // From a fresh record, under rule 20 for senders of 2001:db8::/32 alone: a chain of at most eight headers is followed.
-pub(crate) fn segments<R: Print + AllocGlobal>(rt: &R) -> io::Result<()> {
+pub(crate) fn segments<R: Print>(rt: &R) -> io::Result<()> {
     let prefix = Prefix {
         address: Wide {
             high: 0x20010DB800000000,

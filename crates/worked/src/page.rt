@@ -7,8 +7,7 @@ use numbers::read16;
 use places::place::{age, phase_of, state};
 use places::{PlaceWords, RulePlaces};
 use records::RecordWords;
-use std::alloc::{AllocError, Global};
-use std::fmt::{Display, Formatter, Write};
+use std::fmt::{Display, Formatter, InlineText, Write};
 use std::{fmt, io};
 use steps::Answer;
 use table::words::{RuleWords, TableWords, bucket, tracking};
@@ -35,39 +34,52 @@ impl Display for Example {
     }
 }
 
+// A text that is not allocated. No line of the page is so long.
+pub(crate) type Text = InlineText<512>;
+
 // A refusal, or the verdict, the deciding rule and the event.
-pub(crate) fn answer(alloc: Global, j: &Judged, t: &TableWords) -> Result<String, AllocError> {
+pub(crate) fn answer(j: &Judged, t: &TableWords) -> Text {
     match j.answer {
-        Err(r) => format!(in alloc; "{}", RefusalWords(r, t)),
+        Err(r) => Text::of(RefusalWords(r, t)),
         Ok(a) => {
-            let verdict = format!(in alloc;
+            let verdict = Text::of(format_args!(
                 "{} {}",
                 a.verdict.number(),
                 words::verdict(a.verdict)
-            )?;
-            let rule = decider(alloc, a.rule)?;
-            let event = event(alloc, a.length, &j.event)?;
-            format!(in alloc; "{verdict:<24}{rule:>8}  {event}")
+            ));
+            let rule = decider(a.rule);
+            Text::of(format_args!(
+                "{:<24}{:>8}  {}",
+                verdict.as_str(),
+                rule.as_str(),
+                EventWords(a.length, &j.event)
+            ))
         }
     }
 }
 
-fn decider(alloc: Global, id: u16) -> Result<String, AllocError> {
+fn decider(id: u16) -> Text {
     if id == Answer::NO_RULE {
-        format!(in alloc; "default")
+        Text::of("default")
     } else {
-        format!(in alloc; "{id}")
+        Text::of(id)
     }
 }
 
-// Two spaces stand behind the longest too.
-fn event(alloc: Global, length: usize, event: &[u8; ROOM]) -> Result<String, AllocError> {
-    if length == 0 {
-        return format!(in alloc; "none");
+// The event of so many bytes. Two spaces stand behind the longest too.
+#[derive(Clone, Copy)]
+struct EventWords<'a>(usize, &'a [u8; ROOM]);
+
+impl Display for EventWords<'_> {
+    fn fmt<W: Write>(&self, f: &mut Formatter<W>) -> fmt::Result {
+        let EventWords(length, event) = *self;
+        if length == 0 {
+            return write!(f, "none");
+        }
+        let number = read16(event, 0);
+        let id = read16(event, 2);
+        write!(f, "{}{number} of rule {id}  ", words::event(number))
     }
-    let number = read16(event, 0);
-    let id = read16(event, 2);
-    format!(in alloc; "{}{number} of rule {id}  ", words::event(number))
 }
 
 // The records of the rules that have decided a frame: of each its bucket of this socket, and its conversations.

@@ -1,5 +1,6 @@
 // Two sockets under table T: beside the worked set, for a person who reads them for the first time.
 use crate::bench::{Asked, Bench, laid};
+use crate::page::Text;
 use crate::rules::RuleLine;
 use crate::wrong::changed;
 use paper::Frame;
@@ -7,15 +8,10 @@ use paper::frames::{MOST, frame};
 use std::io;
 use table::*;
 
-fn step<R: Print + AllocGlobal>(
-    bench: &mut Bench<R>,
-    what: &str,
-    f: Frame,
-    socket: u8,
-) -> io::Result<()> {
+fn step<R: Print>(bench: &mut Bench<R>, what: &str, f: Frame, socket: u8) -> io::Result<()> {
     let mut bytes = [0; MOST];
     let n = frame(f, &mut bytes);
-    let words = format!(in bench.rt.alloc(); "{what} on socket {socket}")?;
+    let words = Text::of(format_args!("{what} on socket {socket}"));
     bench.show(Asked {
         socket,
         ..Asked::beside(words.as_str(), &bytes[..n])
@@ -24,7 +20,7 @@ fn step<R: Print + AllocGlobal>(
 }
 
 // From a fresh record, under rule 20 with one of its two places for each socket: each socket has its number, its conversations and its bucket.
-pub(crate) fn both<R: Print + AllocGlobal>(rt: &R) -> io::Result<()> {
+pub(crate) fn both<R: Print>(rt: &R) -> io::Result<()> {
     let t = changed(
         1,
         |r| Rule {

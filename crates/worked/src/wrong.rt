@@ -20,7 +20,7 @@ const SYN: u8 = 2;
 const ACK: u8 = 16;
 
 // From a fresh record, frames from 443 to 50001 with these flags: wrong flags come first, whether a conversation is held or not.
-pub(crate) fn steps<R: Print + AllocGlobal>(bench: &mut Bench<R>) -> io::Result<()> {
+pub(crate) fn steps<R: Print>(bench: &mut Bench<R>) -> io::Result<()> {
     println!(bench.rt; "\nwhich TCP step was wrong, from 443 to 50001")?;
     bench.begin()?;
     let mut bytes = [0; MOST];

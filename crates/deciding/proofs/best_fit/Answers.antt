@@ -10,7 +10,7 @@ use native.Mathlib.Omega.{arith}
 use Rattle.std.proofs.Common.{◌≡◌, cond, suc, ◌<◌, ◌+◌, ℕ, List, []}
 use Rattle.numbers.specs.Lists.{leading}
 use Rattle.table.specs.Words.{rule_in, table_in}
-use Rattle.layers.specs.Seen.{seen_of}
+use Rattle.layers.specs.Seen.{seen_in}
 use Rattle.matching.specs.Matching.{layer_tests}
 use Rattle.deciding.proofs.best_fit.Goals as goal
 use Rattle.deciding.proofs.best_fit.Goals.{then-most-n, else-most-n, else-loop-i-test, then-loop-i-test+then-most-ge-WHOLE}
@@ -28,12 +28,12 @@ row-scored t state x marks i n h e k =
 pub loop-i-init : goal.loop-i-init
 loop-i-init c =
     let a = c.args in
-    (omega arith, c.rulecount-i-end.ensures, fits_start (score_of (table_in a.t.now) a.state (seen_of a.x.now)))
+    (omega arith, c.rulecount-i-end.ensures, fits_start (score_of (table_in a.t.now) a.state (seen_in a.x.now)))
 
 pub loop-i-preserved : goal.loop-i-preserved
 loop-i-preserved c =
     let a = c.args in
-    let x = seen_of a.x.now in
+    let x = seen_in a.x.now in
     let f = score_of (table_in a.t.now) a.state x in
     let scored : c.score-n.result ≡ score_of (table_in a.t.now) a.state x c.loop-i.i =
     row-scored a.t.now a.state x c.marks_of-marks.result c.loop-i.i c.score-n.result (omega arith) c.marks_of-marks.ensures c.score-n.ensures in (
@@ -50,7 +50,7 @@ pub returns-then-most-eq0 : goal.returns-then-most-eq0
 unfolding score_of
 returns-then-most-eq0 c =
     let a = c.args in
-    let x = seen_of a.x.now in
+    let x = seen_in a.x.now in
     fits_none (table_in a.t.now) a.state x c.loop-i-test.place c.loop-i-test.most c.if-most-eq0.true
     (
     let n : c.rulecount-i-end.result ≡ (table_in a.t.now).rulecount = c.loop-i.invariant.1 in
@@ -76,7 +76,7 @@ pub returns : goal.returns
 unfolding score_of
 returns c =
     let a = c.args in
-    let x = seen_of a.x.now in
+    let x = seen_in a.x.now in
     best_fits (table_in a.t.now) a.state x c.loop-i-test.place c.loop-i-test.most c.if-most-eq0.false
     (
     let n : c.rulecount-i-end.result ≡ (table_in a.t.now).rulecount = c.loop-i.invariant.1 in

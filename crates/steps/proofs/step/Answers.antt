@@ -4,7 +4,7 @@ use Rattle.deciding.specs.declared.Decision.{Decision}
 use Rattle.deciding.proofs.Deciders.{decider_small}
 use Rattle.steps.proofs.Laws.{few_places, shown_long, state_small, ticked_small, step_is}
 use Rattle.std.proofs.Common.{◌≡◌}
-use Rattle.layers.specs.Seen.{seen_of}
+use Rattle.layers.specs.Seen.{seen_in}
 use Rattle.table.specs.Words.{table_in}
 use Rattle.steps.proofs.step.Goals as goal
 
@@ -50,11 +50,11 @@ write_event-length-requires-clause-long c = let d = c in
 pub returns-clause-outcome : goal.returns-clause-outcome
 returns-clause-outcome c = let d = c in
     let a = d.args in
-    let says = c.act-verdict.ensures in (step_is (table_in a.t.now) a.reading (seen_of a.x.now) _ _ _ _ _ _ _ _ _ (who _ _ c.decide-decision.ensures) d.turn-g.ensures c.tick.ensures says.verdict says.records refl c.shape.ensures c.id_at.ensures
+    let says = c.act-verdict.ensures in (step_is (table_in a.t.now) a.reading (seen_in a.x.now) _ _ _ _ _ _ _ _ _ (who _ _ c.decide-decision.ensures) d.turn-g.ensures c.tick.ensures says.verdict says.records refl c.shape.ensures c.id_at.ensures
     c.write_event-length.ensures).0
 
 pub returns-clause-records : goal.returns-clause-records
 returns-clause-records c = let d = c in
     let a = d.args in
-    let says = c.act-verdict.ensures in (step_is (table_in a.t.now) a.reading (seen_of a.x.now) _ _ _ _ _ _ _ _ _ (who _ _ c.decide-decision.ensures) d.turn-g.ensures c.tick.ensures says.verdict says.records refl c.shape.ensures c.id_at.ensures
+    let says = c.act-verdict.ensures in (step_is (table_in a.t.now) a.reading (seen_in a.x.now) _ _ _ _ _ _ _ _ _ (who _ _ c.decide-decision.ensures) d.turn-g.ensures c.tick.ensures says.verdict says.records refl c.shape.ensures c.id_at.ensures
     c.write_event-length.ensures).1

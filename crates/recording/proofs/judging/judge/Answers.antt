@@ -4,7 +4,7 @@ use mathlib.Core.List.{List}
 use Prim.Native.Nat.{ℕ}
 use Rattle.std.specs.Prelude.{Result, Ok}
 use Rattle.layers.specs.Layers.{shown_of}
-use Rattle.layers.specs.Seen.{Seen, seen, seen_of, see_of, said_seen}
+use Rattle.layers.specs.Seen.{Seen, seen, seen_in, see_of, said_seen}
 use Rattle.layers.specs.declared.seen.Seen.{Seen as SeenBytes}
 use Rattle.layers.specs.declared.FrameRefusal.{FrameRefusal}
 use Rattle.layers.proofs.Laws.{saw, refused}
@@ -24,8 +24,8 @@ returns-in-Err-clause-words c = let a = c in let p = a.requires in (frame_refuse
 
 -- what is seen is the frame's own, on socket 0
 own : (x : SeenBytes) (s : List ℕ) (r : Result SeenBytes FrameRefusal) → r ≡ Ok x → said_seen r ≡ see_of false s
-    → (shown_of s ≡ Ok x.layers) × (seen_of x ≡ seen false s x.layers)
-own x s r e q = saw false s (seen_of x) (ap said_seen (sym e) ∙ q)
+    → (shown_of s ≡ Ok x.layers) × (seen_in x ≡ seen false s x.layers)
+own x s r e q = saw false s (seen_in x) (ap said_seen (sym e) ∙ q)
 
 pub step-a-requires : goal.step-a-requires
 step-a-requires c =
