@@ -1,6 +1,6 @@
 -- When a table is bad, and where its first fault stands. Document 01, 'Rules and vehicle states' and refusal 4; change request 1/12.
 -- Assumes nothing.
-use Rattle.std.specs.Prelude.{Result, Ok, Err, ⊤, ℕ, ◌/◌, ◌^◌, ◌<◌, ◌≡◌, List, Bool, cond, ◌&&◌, not, get_or, leb, ltb, eqb}
+use Rattle.std.specs.Prelude.{ℕ, Result, Ok, Err, ⊤, ◌/◌, ◌^◌, ◌<◌, ◌≡◌, List, Bool, cond, ◌&&◌, not, get_or, leb, ltb, eqb}
 use Rattle.numbers.specs.Lists.{first, all_below}
 use Rattle.ranges.specs.Ranges.{known_action, Test, rule_tests, all_good, fault_in}
 use Rattle.table.specs.declared.State.{State}

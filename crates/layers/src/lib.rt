@@ -76,7 +76,8 @@ fn is_short(s: &[u8]) -> bool
 
 /// What a frame shows, for any product. Takes the frame's bytes, without their check sequence, and asks nothing of them. Answers a refusal
 /// or the layers, `Absent` or `None` for each that the frame lacks; it keeps nothing and changes nothing. Link and IP are types of
-/// `packets`, transport and SOME/IP of `payloads`, the words of an IPv6 address of `addresses`, so a product names those too. Every offset in the answer counts from the frame's start and lies, with its length, inside the frame
+/// `packets`, transport and SOME/IP of `payloads`, the words of an IPv6 address of `addresses`, so a product names those too.
+/// Every offset in the answer counts from the frame's start and lies, with its length, inside the frame
 /// (specs/Inside here, in `packets` and in `payloads`; laws `shows_inside`, `packet_inside` and its like of proofs/Laws). Of an IPv6 packet whose extension headers cannot be followed the chain is `None`, and no transport is shown.
 /// SOME/IP is shown as its bundle, whose messages `payloads::someip_layer::message_at` reads one behind the other.
 /// How many hops a packet may still make, 0 where there is none:

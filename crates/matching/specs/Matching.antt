@@ -1,7 +1,7 @@
 -- Does a layer match, and does a rule. Document 01, 'Rules and vehicle states'; change requests 2/12, 3/12 and 6/12.
 -- s is the frame's bytes.
 -- Assumes nothing.
-use Rattle.std.specs.Prelude.{Option, Some, None, ℕ, List, [], ◌∷◌, ◌++◌, Bool, false, ◌||◌, eqb}
+use Rattle.std.specs.Prelude.{ℕ, Option, Some, None, List, [], ◌∷◌, ◌++◌, Bool, false, ◌||◌, eqb}
 use Rattle.numbers.specs.Lists.{every, every_of}
 use Rattle.packets.specs.declared.Tag.{Tag}
 use Rattle.packets.specs.declared.Link.{Link}

@@ -86,7 +86,7 @@ const TOO_SHORT: Expected = Expected::Refused(1);
 
 const TOO_LONG: Expected = Expected::Refused(2);
 
-// A line in one row: example, fresh, reading, frame, what is expected.
+// A line in one row: example, fresh, reading, frame, what is expected. A Row beside Line, so that a line of the page is one line here.
 #[derive(Clone, Copy)]
 struct Row(u8, bool, u64, Frame, Expected);
 
