@@ -1,264 +1,186 @@
-// Each call: its bytes are taken from the input, the call is made, and its answer is printed. False where they are no call.
+// Each call: its bytes are taken from the input, the call is made, and its answer is printed.
 ghost use Rattle.std.specs.Prelude.{◌≤◌};
 
-use crate::image::{Image, RECORDS, TABLE, records_of};
-use crate::input::take;
-use crate::print;
-use numbers::{count8, count16, read16, read32, read64, wide64};
-use records::{Counts, Head, Places};
-use std::io;
+use crate::image::{RECORDS, TABLE, records_of, table_of};
+use crate::input::Input;
+use crate::{Stop, print};
+use numbers::{read16, read32, read64};
+use records::RecordWords;
 use std::io::{Read, Write};
-use table::words::TableWords;
+use table::words::{ROW_WORDS, ROWS, TableWords};
 
-// One frame judged so many times on a socket, at readings that rise by a step.
+// The longest event space and the longest frame of a call.
+const SPACE: usize = 512;
+
+const FRAME: usize = 2048;
+
+// A byte of the event space that was not written, so that one that was shows.
+pub(crate) const UNWRITTEN: u8 = 170;
+
+// One frame judged so many times, at readings that rise by a step.
 #[derive(Clone, Copy)]
 struct Many {
-    socket: u8,
     times: u32,
     step: u64,
 }
 
-pub(crate) fn call(
-    letter: u8,
+const ONCE: Many = Many { times: 1, step: 0 };
+
+// What is held from one call to the next: the table, the records, and the socket that frames come on.
+#[derive(Clone, Copy)]
+pub(crate) struct Held {
+    table: TableWords,
+    records: RecordWords,
     socket: u8,
-    t: &TableWords,
-    input: &mut impl Read,
-    image: &mut Image,
-    head: &mut Head,
-    counts: &mut Counts,
-    places: &mut Places,
-    out: &mut impl Write,
-) -> io::Result<bool> {
-    let once = Many {
-        socket,
-        times: 1,
-        step: 0,
-    };
-    match letter {
-        b'T' => Ok(take(input, image, 0, TABLE)),
-        b'R' => Ok(load(input, image, head, counts, places)),
-        b'C' => check(t, head, counts, places, out),
-        b'F' => fresh(t, input, image, head, counts, places, out),
-        b'V' => switch(t, input, image, head, counts, places, out),
-        b'S' => Ok(take(input, image, 0, 1)),
-        b'J' => judge(t, once, input, image, head, counts, places, out),
-        b'B' => pace(t, socket, input, image, head, counts, places, out),
-        b'L' => layers_of(input, image, out),
-        b'P' => print::all_records(head, counts, places, out),
-        _ => Ok(false),
-    }
 }
 
-fn load(
-    input: &mut impl Read,
-    image: &mut Image,
-    head: &mut Head,
-    counts: &mut Counts,
-    places: &mut Places,
-) -> bool {
-    if !take(input, image, 0, RECORDS) {
-        return false;
+impl Held {
+    pub(crate) fn new() -> Held {
+        Held {
+            table: [[0; ROW_WORDS]; ROWS],
+            records: RecordWords::fresh(0),
+            socket: 0,
+        }
     }
-    records_of(image, head, counts, places);
-    true
-}
 
-fn check(
-    t: &TableWords,
-    head: &Head,
-    counts: &Counts,
-    places: &Places,
-    out: &mut impl Write,
-) -> io::Result<bool> {
-    let answer = firewall::check(t, head, counts, places);
-    print::checked(answer, out)?;
-    Ok(true)
-}
+    pub(crate) fn call(
+        &mut self,
+        letter: u8,
+        input: &mut Input<impl Read>,
+        out: &mut impl Write,
+    ) -> Result<(), Stop> {
+        match letter {
+            b'T' => self.lay_table(input),
+            b'R' => self.load(input),
+            b'C' => Ok(print::done('C', firewall::check(&self.table, &self.records), out)?),
+            b'F' => self.fresh(input, out),
+            b'V' => self.switch(input, out),
+            b'S' => self.set_socket(input),
+            b'J' => self.judge(ONCE, input, out),
+            b'B' => self.pace(input, out),
+            b'L' => layers_of(input, out),
+            b'P' => Ok(print::all_records(&self.records, out)?),
+            _ => Err(Stop::NoCall),
+        }
+    }
 
-fn fresh(
-    t: &TableWords,
-    input: &mut impl Read,
-    image: &mut Image,
-    head: &mut Head,
-    counts: &mut Counts,
-    places: &mut Places,
-    out: &mut impl Write,
-) -> io::Result<bool> {
-    if !take(input, image, 0, 8) {
-        return Ok(false);
+    fn lay_table(&mut self, input: &mut Input<impl Read>) -> Result<(), Stop> {
+        input.take(0, TABLE)?;
+        lay::table(table_of(&input.image), &mut self.table);
+        Ok(())
     }
-    let answer = firewall::fresh(t, read64(image, 0), head, counts, places);
-    print::started(answer, out)?;
-    Ok(true)
-}
 
-fn switch(
-    t: &TableWords,
-    input: &mut impl Read,
-    image: &mut Image,
-    head: &mut Head,
-    counts: &mut Counts,
-    places: &mut Places,
-    out: &mut impl Write,
-) -> io::Result<bool> {
-    if !take(input, image, 0, 1) {
-        return Ok(false);
+    fn load(&mut self, input: &mut Input<impl Read>) -> Result<(), Stop> {
+        input.take(0, RECORDS)?;
+        records_of(&input.image, &mut self.records);
+        Ok(())
     }
-    let answer = firewall::switch(t, count8(image[0]), head, counts, places);
-    print::switched(answer, out)?;
-    Ok(true)
-}
 
-fn pace(
-    t: &TableWords,
-    socket: u8,
-    input: &mut impl Read,
-    image: &mut Image,
-    head: &mut Head,
-    counts: &mut Counts,
-    places: &mut Places,
-    out: &mut impl Write,
-) -> io::Result<bool> {
-    if !take(input, image, 0, 8) {
-        return Ok(false);
+    fn set_socket(&mut self, input: &mut Input<impl Read>) -> Result<(), Stop> {
+        input.take(0, 1)?;
+        self.socket = input.image[0];
+        Ok(())
     }
-    let times = read32(image, 0);
-    if times == 0 {
-        return Ok(false);
-    }
-    let many = Many {
-        socket,
-        times,
-        step: wide64(read32(image, 4)),
-    };
-    judge(t, many, input, image, head, counts, places, out)
-}
 
-fn judge(
-    t: &TableWords,
-    m: Many,
-    input: &mut impl Read,
-    image: &mut Image,
-    head: &mut Head,
-    counts: &mut Counts,
-    places: &mut Places,
-    out: &mut impl Write,
-) -> io::Result<bool> {
-    if !take(input, image, 0, 12) {
-        return Ok(false);
+    fn fresh(&mut self, input: &mut Input<impl Read>, out: &mut impl Write) -> Result<(), Stop> {
+        input.take(0, 8)?;
+        let answer = firewall::fresh(&self.table, read64(&input.image, 0), &mut self.records);
+        Ok(print::done('F', answer, out)?)
     }
-    let room = count16(read16(image, 8));
-    let length = count16(read16(image, 10));
-    if 512 < room {
-        return Ok(false);
-    }
-    if 2048 < length {
-        return Ok(false);
-    }
-    if !take(input, image, 12, length) {
-        return Ok(false);
-    }
-    judged(t, m, image, room, length, head, counts, places, out)?;
-    Ok(true)
-}
 
-// A reading that would pass the highest stays.
-fn later(reading: u64, step: u64) -> u64 {
-    if u64::MAX - reading < step {
-        return reading;
+    fn switch(&mut self, input: &mut Input<impl Read>, out: &mut impl Write) -> Result<(), Stop> {
+        input.take(0, 1)?;
+        let answer = firewall::switch(&self.table, usize::from(input.image[0]), &mut self.records);
+        Ok(print::done('V', answer, out)?)
     }
-    reading + step
-}
 
-// All calls but the last; what is left is the reading of that one.
-fn earlier(
-    t: &TableWords,
-    m: Many,
-    image: &Image,
-    room: usize,
-    length: usize,
-    head: &mut Head,
-    counts: &mut Counts,
-    places: &mut Places,
-) -> u64
-    requires room { room ≤ 512 }
-    requires length { length ≤ 2048 }
-{
-    let bytes = &image[..];
-    let end = 12 + length;
-    let mut reading = read64(image, 0);
-    let mut left = m.times;
-    while 1 < left {
-        let mut space = [170u8; 512];
-        firewall::judge(
-            t,
-            head,
-            counts,
-            places,
-            m.socket,
-            &bytes[12..end],
-            reading,
-            &mut space[0..room],
+    fn pace(&mut self, input: &mut Input<impl Read>, out: &mut impl Write) -> Result<(), Stop> {
+        input.take(0, 8)?;
+        let many = Many {
+            times: read32(&input.image, 0),
+            step: u64::from(read32(&input.image, 4)),
+        };
+        if many.times == 0 {
+            return Err(Stop::NoCall);
+        }
+        self.judge(many, input, out)
+    }
+
+    fn judge(
+        &mut self,
+        many: Many,
+        input: &mut Input<impl Read>,
+        out: &mut impl Write,
+    ) -> Result<(), Stop> {
+        input.take(0, 12)?;
+        let room = usize::from(read16(&input.image, 8));
+        let length = usize::from(read16(&input.image, 10));
+        if room > SPACE || length > FRAME {
+            return Err(Stop::NoCall);
+        }
+        input.take(12, length)?;
+        self.judged(
+            many,
+            read64(&input.image, 0),
+            &input.image[12..12 + length],
+            room,
+            out,
+        )
+    }
+
+    // All calls; the last answer is printed.
+    fn judged(
+        &mut self,
+        many: Many,
+        reading: u64,
+        frame: &[u8],
+        room: usize,
+        out: &mut impl Write,
+    ) -> Result<(), Stop>
+        requires { room ≤ 512 }
+    {
+        let last = self.judge_earlier(many, reading, frame, room);
+        let mut space = [UNWRITTEN; SPACE];
+        let answer = firewall::judge(
+            &self.table,
+            &mut self.records,
+            self.socket,
+            frame,
+            last,
+            &mut space[..room],
         );
-        reading = later(reading, m.step);
-        left -= 1;
+        Ok(print::judged(answer, &space, out)?)
     }
-    reading
+
+    // All calls but the last; what is left is the reading of that one. A reading that would pass the highest stays.
+    fn judge_earlier(&mut self, many: Many, first: u64, frame: &[u8], room: usize) -> u64
+        requires { room ≤ 512 }
+    {
+        let mut reading = first;
+        for _ in 1..many.times {
+            let mut space = [UNWRITTEN; SPACE];
+            // Of these calls no answer is printed: the records that they leave tell on.
+            let _ = firewall::judge(
+                &self.table,
+                &mut self.records,
+                self.socket,
+                frame,
+                reading,
+                &mut space[..room],
+            );
+            reading = reading.checked_add(many.step).unwrap_or(reading);
+        }
+        reading
+    }
 }
 
-// All calls; the last answer is printed. The event space is 170 in every byte, so that a byte that was written shows.
-fn judged(
-    t: &TableWords,
-    m: Many,
-    image: &Image,
-    room: usize,
-    length: usize,
-    head: &mut Head,
-    counts: &mut Counts,
-    places: &mut Places,
-    out: &mut impl Write,
-) -> io::Result<()>
-    requires room { room ≤ 512 }
-    requires length { length ≤ 2048 }
-{
-    let reading = earlier(t, m, image, room, length, head, counts, places);
-    let mut space = [170u8; 512];
-    let bytes = &image[..];
-    let end = 12 + length;
-    let answer = firewall::judge(
-        t,
-        head,
-        counts,
-        places,
-        m.socket,
-        &bytes[12..end],
-        reading,
-        &mut space[0..room],
-    );
-    print::judged(answer, space, out)
-}
-
-fn layers_of(input: &mut impl Read, image: &mut Image, out: &mut impl Write) -> io::Result<bool> {
-    if !take(input, image, 0, 2) {
-        return Ok(false);
+fn layers_of(input: &mut Input<impl Read>, out: &mut impl Write) -> Result<(), Stop> {
+    input.take(0, 2)?;
+    let length = usize::from(read16(&input.image, 0));
+    if length > FRAME {
+        return Err(Stop::NoCall);
     }
-    let length = count16(read16(image, 0));
-    if 2048 < length {
-        return Ok(false);
-    }
-    if !take(input, image, 2, length) {
-        return Ok(false);
-    }
-    shown(image, length, out)?;
-    Ok(true)
-}
-
-fn shown(image: &Image, length: usize, out: &mut impl Write) -> io::Result<()>
-    requires { length ≤ 2048 }
-{
-    let bytes = &image[..];
-    let end = 2 + length;
-    let frame = &bytes[2..end];
-    let answer = layers::read(frame);
-    print::shown(frame, answer, out)
+    input.take(2, length)?;
+    let frame = &input.image[2..2 + length];
+    Ok(print::shown(frame, layers::read(frame), out)?)
 }

@@ -1,20 +1,20 @@
 // The image of a table and that of records, taken apart.
 ghost use Rattle.std.specs.Prelude.{◌+◌, ◌≤◌, ◌<◌};
 
-use addresses::read128;
-use numbers::{count8, read16, read32, read48, read64, wide64};
+use addresses::{Wide, read128};
+use numbers::{read16, read32, read48, read64};
 use places::place::{ipv4_quad, ipv6_quad, phase_of, place_words};
 use places::{PLACE_WORDS, PlaceWords, Quad, RulePlaces};
-use records::{Counts, Head, Places};
+use records::{DEFAULT, RecordWords};
 use table::{
-    Action, Ipv4Settings, Ipv6Settings, Kind, KindSetting, LinkSettings, PLACES, Prefix, Prefix6,
-    Prefix6Setting, PrefixSetting, Range, RangeSetting, RateSettings, Rule, Setting8, Setting16,
-    Setting32, Setting64, SomeipSettings, State, Table, TrackingSettings, TransportSettings,
+    Action, IpSettings, Ipv4Settings, Ipv6Settings, Kind, LinkSettings, Prefix, RULES, Range,
+    RateSettings, Rule, STATES, Setting, SomeipSettings, State, Table, TrackingSettings,
+    TransportSettings,
 };
 use verdicts::CountWords;
 
 // The bytes after a call's letter: the longest are those of a record image.
-pub type Image = [u8; 33812];
+pub type Image = [u8; RECORDS];
 
 type RuleImage = [u8; 192];
 
@@ -26,168 +26,106 @@ fn action(b: u8) -> Action {
     if b == 0 { Action::Allow } else { Action::Block }
 }
 
-// Is the setting of this bit set?
-fn is_set(set: u32, bit: u32) -> bool
+fn kind(b: u8) -> Kind {
+    if b == 1 { Kind::Tcp } else { Kind::Udp }
+}
+
+// A setting by its bit among those that are set.
+fn setting<T: Copy>(set: u32, bit: u32, value: T) -> Setting<T>
     requires { bit < 32 }
 {
-    (set >> bit) % 2 == 1
+    if (set >> bit) % 2 == 1 {
+        Setting::Set(value)
+    } else {
+        Setting::Unset
+    }
 }
 
-fn setting8(r: &RuleImage, at: usize, set: u32, bit: u32) -> Setting8
-    requires at { at < 192 }
-    requires bit { bit < 32 }
+fn prefix(r: &RuleImage, at: usize) -> Prefix<u32>
+    requires { at + 5 ≤ 192 }
 {
-    if is_set(set, bit) {
-        Setting8::Set(r[at])
-    } else {
-        Setting8::Unset
+    Prefix {
+        address: read32(r, at),
+        length: r[at + 4],
     }
 }
 
-fn setting16(r: &RuleImage, at: usize, set: u32, bit: u32) -> Setting16
-    requires at { at + 2 ≤ 192 }
-    requires bit { bit < 32 }
+fn prefix6(r: &RuleImage, at: usize) -> Prefix<Wide>
+    requires { at + 17 ≤ 192 }
 {
-    if is_set(set, bit) {
-        Setting16::Set(read16(r, at))
-    } else {
-        Setting16::Unset
+    Prefix {
+        address: read128(r, at),
+        length: r[at + 16],
     }
 }
 
-fn setting32(r: &RuleImage, at: usize, set: u32, bit: u32) -> Setting32
-    requires at { at + 4 ≤ 192 }
-    requires bit { bit < 32 }
+fn range(r: &RuleImage, at: usize) -> Range
+    requires { at + 4 ≤ 192 }
 {
-    if is_set(set, bit) {
-        Setting32::Set(read32(r, at))
-    } else {
-        Setting32::Unset
-    }
-}
-
-fn setting48(r: &RuleImage, at: usize, set: u32, bit: u32) -> Setting64
-    requires at { at + 6 ≤ 192 }
-    requires bit { bit < 32 }
-{
-    if is_set(set, bit) {
-        Setting64::Set(read48(r, at))
-    } else {
-        Setting64::Unset
-    }
-}
-
-fn prefix(r: &RuleImage, at: usize, set: u32, bit: u32) -> PrefixSetting
-    requires at { at + 5 ≤ 192 }
-    requires bit { bit < 32 }
-{
-    if is_set(set, bit) {
-        PrefixSetting::Set(Prefix {
-            address: read32(r, at),
-            length: r[at + 4],
-        })
-    } else {
-        PrefixSetting::Unset
-    }
-}
-
-fn prefix6(r: &RuleImage, at: usize, set: u32, bit: u32) -> Prefix6Setting
-    requires at { at + 17 ≤ 192 }
-    requires bit { bit < 32 }
-{
-    if is_set(set, bit) {
-        Prefix6Setting::Set(Prefix6 {
-            address: read128(r, at),
-            length: r[at + 16],
-        })
-    } else {
-        Prefix6Setting::Unset
-    }
-}
-
-fn range(r: &RuleImage, at: usize, set: u32, bit: u32) -> RangeSetting
-    requires at { at + 4 ≤ 192 }
-    requires bit { bit < 32 }
-{
-    if is_set(set, bit) {
-        RangeSetting::Set(Range {
-            low: read16(r, at),
-            high: read16(r, at + 2),
-        })
-    } else {
-        RangeSetting::Unset
-    }
-}
-
-fn kind(b: u8, set: u32) -> KindSetting {
-    if !is_set(set, 8) {
-        return KindSetting::Unset;
-    }
-    if b == 1 {
-        KindSetting::Set(Kind::Tcp)
-    } else {
-        KindSetting::Set(Kind::Udp)
+    Range {
+        low: read16(r, at),
+        high: read16(r, at + 2),
     }
 }
 
 fn link(r: &RuleImage, set: u32) -> LinkSettings {
     LinkSettings {
-        destination: setting48(r, 7, set, 0),
-        source: setting48(r, 13, set, 1),
-        vlan: setting16(r, 19, set, 2),
-        priority: setting8(r, 21, set, 3),
-        ether: setting16(r, 23, set, 4),
-        socket: setting8(r, 96, set, 23),
+        destination: setting(set, 0, read48(r, 7)),
+        source: setting(set, 1, read48(r, 13)),
+        vlan: setting(set, 2, read16(r, 19)),
+        priority: setting(set, 3, r[21]),
+        ether: setting(set, 4, read16(r, 23)),
+        socket: setting(set, 23, r[96]),
     }
 }
 
 fn ipv4(r: &RuleImage, set: u32) -> Ipv4Settings {
-    Ipv4Settings {
-        source: prefix(r, 25, set, 5),
-        destination: prefix(r, 30, set, 6),
-        protocol: setting8(r, 35, set, 7),
+    IpSettings {
+        source: setting(set, 5, prefix(r, 25)),
+        destination: setting(set, 6, prefix(r, 30)),
+        protocol: setting(set, 7, r[35]),
     }
 }
 
 fn ipv6(r: &RuleImage, set: u32) -> Ipv6Settings {
-    Ipv6Settings {
-        source: prefix6(r, 61, set, 20),
-        destination: prefix6(r, 78, set, 21),
-        protocol: setting8(r, 95, set, 22),
+    IpSettings {
+        source: setting(set, 20, prefix6(r, 61)),
+        destination: setting(set, 21, prefix6(r, 78)),
+        protocol: setting(set, 22, r[95]),
     }
 }
 
 fn transport(r: &RuleImage, set: u32) -> TransportSettings {
     TransportSettings {
-        kind: kind(r[36], set),
-        source: range(r, 37, set, 9),
-        destination: range(r, 41, set, 10),
+        kind: setting(set, 8, kind(r[36])),
+        source: setting(set, 9, range(r, 37)),
+        destination: setting(set, 10, range(r, 41)),
     }
 }
 
 fn someip(r: &RuleImage, set: u32) -> SomeipSettings {
     SomeipSettings {
-        service: setting16(r, 45, set, 11),
-        method: setting16(r, 47, set, 12),
-        version: setting8(r, 49, set, 13),
-        kind: setting8(r, 50, set, 14),
-        code: setting8(r, 51, set, 15),
+        service: setting(set, 11, read16(r, 45)),
+        method: setting(set, 12, read16(r, 47)),
+        version: setting(set, 13, r[49]),
+        kind: setting(set, 14, r[50]),
+        code: setting(set, 15, r[51]),
     }
 }
 
 fn rate(r: &RuleImage, set: u32) -> RateSettings {
     RateSettings {
-        size: setting16(r, 52, set, 16),
-        refill: setting16(r, 54, set, 17),
+        size: setting(set, 16, read16(r, 52)),
+        refill: setting(set, 17, read16(r, 54)),
     }
 }
 
 fn tracking(r: &RuleImage, set: u32) -> TrackingSettings {
     TrackingSettings {
-        places: setting8(r, 56, set, 18),
-        limit: setting32(r, 57, set, 19),
-        number0: setting8(r, 97, set, 24),
-        number1: setting8(r, 98, set, 25),
+        places: setting(set, 18, r[56]),
+        limit: setting(set, 19, read32(r, 57)),
+        number0: setting(set, 24, r[97]),
+        number1: setting(set, 25, r[98]),
     }
 }
 
@@ -210,21 +148,15 @@ fn rule(r: &RuleImage) -> Rule {
 fn rule_at(s: &Image, at: usize) -> Rule
     requires { at + 192 ≤ 33812 }
 {
-    let mut r = [0u8; 192];
-    let mut i = 0;
-    while i < 192 {
-        r[i] = s[at + i];
-        i += 1;
-    }
+    let mut r = [0; 192];
+    r.copy_from_slice(&s[at..at + 192]);
     rule(&r)
 }
 
-fn rules(s: &Image) -> [Rule; 64] {
-    let mut all = [rule(&[0; 192]); 64];
-    let mut k = 0;
-    while k < 64 {
-        all[k] = rule_at(s, 1 + 192 * k);
-        k += 1;
+fn rules(s: &Image) -> [Rule; RULES] {
+    let mut all = [rule(&[0; 192]); RULES];
+    for (k, r) in all.iter_mut().enumerate() {
+        *r = rule_at(s, 1 + 192 * k);
     }
     all
 }
@@ -238,21 +170,19 @@ fn state(s: &Image, at: usize) -> State
     }
 }
 
-fn states(s: &Image) -> [State; 8] {
-    let mut all = [state(s, 12290); 8];
-    let mut k = 1;
-    while k < 8 {
-        all[k] = state(s, 12290 + 10 * k);
-        k += 1;
+fn states(s: &Image) -> [State; STATES] {
+    let mut all = [state(s, 12290); STATES];
+    for (k, st) in all.iter_mut().enumerate() {
+        *st = state(s, 12290 + 10 * k);
     }
     all
 }
 
 pub(crate) fn table_of(s: &Image) -> Table {
     Table {
-        rulecount: count8(s[0]),
+        rulecount: usize::from(s[0]),
         rules: rules(s),
-        statecount: count8(s[12289]),
+        statecount: usize::from(s[12289]),
         states: states(s),
     }
 }
@@ -264,7 +194,7 @@ fn place(s: &Image, at: usize) -> PlaceWords
     if s[at] == 0 {
         return [0; PLACE_WORDS];
     }
-    let f = phase_of(state_number(s[at]));
+    let f = phase_of(u64::from(s[at]));
     place_words(conversation(s, at), f, read32(s, at + 13))
 }
 
@@ -275,22 +205,17 @@ fn conversation(s: &Image, at: usize) -> Quad
     let second = s[at + 50] != 0;
     let ports = read32(s, at + 9);
     if s[at + 17] == 0 {
-        return ipv4_quad(second, read32(s, at + 1), read32(s, at + 5), ports);
+        ipv4_quad(second, read32(s, at + 1), read32(s, at + 5), ports)
+    } else {
+        ipv6_quad(second, read128(s, at + 18), read128(s, at + 34), ports)
     }
-    ipv6_quad(second, read128(s, at + 18), read128(s, at + 34), ports)
-}
-
-fn state_number(b: u8) -> u64 {
-    b as u64
 }
 
 fn held(s: &Image, at: usize, places: &mut RulePlaces)
     requires { at + 528 ≤ 33812 }
 {
-    let mut j = 0;
-    while j < PLACES {
-        places[j] = place(s, at + 16 + 64 * j);
-        j += 1;
+    for (j, p) in places.iter_mut().enumerate() {
+        *p = place(s, at + 16 + 64 * j);
     }
 }
 
@@ -306,15 +231,12 @@ fn counts_at(s: &Image, at: usize) -> CountWords
     ]
 }
 
-pub(crate) fn records_of(s: &Image, head: &mut Head, counts: &mut Counts, places: &mut Places) {
-    *head = [read64(s, 0), wide64(read32(s, 8))];
-    let mut k = 0;
-    while k < 64 {
+pub(crate) fn records_of(s: &Image, words: &mut RecordWords) {
+    words.head = [read64(s, 0), u64::from(read32(s, 8))];
+    for (k, places) in words.places.iter_mut().enumerate() {
         let at = 20 + 528 * k;
-        counts[k] = counts_at(s, at);
-        held(s, at, &mut places[k]);
-        k += 1;
+        words.counts[k] = counts_at(s, at);
+        held(s, at, places);
     }
-    let row = [0, 0, read32(s, 12), read32(s, 16)];
-    counts[64] = row;
+    words.counts[DEFAULT] = [0, 0, read32(s, 12), read32(s, 16)];
 }

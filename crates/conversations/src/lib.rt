@@ -7,7 +7,8 @@ pub mod track;
 use flags::FlagKind;
 use places::Quad;
 
-// What a rule looks at in a frame: its socket, which the quadruple has, and of a TCP segment the conversation and what the flags count as, None where they are wrong. A frame without one has no conversation, on its socket.
+// What a rule looks at in a frame: its socket, which the quadruple has, and of a TCP segment the conversation and what the flags count as, None where they are wrong.
+// A frame without one has no conversation, on its socket.
 #[derive(Clone, Copy)]
 pub struct Turn {
     pub quad: Quad,

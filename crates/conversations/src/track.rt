@@ -30,20 +30,6 @@ fn find_free(n: usize, ps: &RulePlaces) -> usize
     find(no_quad(false), ps).free.min(n)
 }
 
-// The place for a new conversation of a socket, or as many as there are: none for a socket at its number.
-// That no Room has more than eight places is asked here and below, and no fact of Room: the definition tracking_of gives a Room for every rule, one at fault too.
-fn find_seat(m: Room, second: bool, ps: &RulePlaces) -> usize
-    requires { m.places ≤ most_places }
-    ensures { result ≡ seat_of m second (places_of ps.now) }
-{
-    let n = usize::from(m.places);
-    if held_by(second, ps) < number_of(m, second) {
-        find_free(n, ps)
-    } else {
-        n
-    }
-}
-
 // ---- what a frame does to the places
 
 fn hold(q: Quad, f: Phase, p: &mut PlaceWords)
@@ -76,53 +62,82 @@ fn move_place(q: Quad, n: Next, i: usize, ps: &mut RulePlaces) -> Progress
     }
 }
 
-// A new conversation takes its place.
-fn open_place(m: Room, q: Quad, ps: &mut RulePlaces) -> Progress
-    requires { m.places ≤ most_places }
-    ensures { tracked_as result ps.new ≡ opened m q (places_of ps.old) }
-{
-    let i = find_seat(m, q.second, ps);
-    if i < usize::from(m.places) {
-        hold(q, Phase::Opening, &mut ps[i]);
-        Progress::Holds
-    } else {
-        Progress::NoPlaceFree
-    }
+// ---- a frame whose flags are a kind
+
+// A conversation, and the room that its rule has.
+#[derive(Clone, Copy)]
+struct Sought {
+    room: Room,
+    quad: Quad,
+    ghost eight: { room.places ≤ most_places },
 }
 
-// No such conversation is held: an open frame begins it.
-fn begin(m: Room, q: Quad, k: FlagKind, ps: &mut RulePlaces) -> Progress
-    requires { m.places ≤ most_places }
-    ensures { tracked_as result ps.new ≡ begun m q (places_of ps.old) k }
-{
-    match k {
-        FlagKind::Open => open_place(m, q, ps),
-        FlagKind::Carry | FlagKind::End | FlagKind::Reset => Progress::NoConversation,
+impl Sought {
+    // The place for a new conversation of the socket, or as many as there are: none for a socket at its number.
+    fn seat(self, ps: &RulePlaces) -> usize
+        ensures { result ≡ seat_of self.room self.quad.second (places_of ps.now) }
+    {
+        let n = usize::from(self.room.places);
+        let second = self.quad.second;
+        if held_by(second, ps) < number_of(self.room, second) {
+            find_free(n, ps)
+        } else {
+            n
+        }
     }
-}
 
-// A frame whose flags are a kind: a step of the conversation that is held, or of none.
-#[tactic(auto, using(crate::proofs::TrackLaws::step_held, crate::proofs::TrackLaws::step_none))]
-fn take_step(m: Room, q: Quad, k: FlagKind, ps: &mut RulePlaces) -> Progress
-    requires { m.places ≤ most_places }
-    ensures { tracked_as result ps.new ≡ step_of m q (places_of ps.old) k }
-{
-    let i = find_quad(q, ps);
-    if i < PLACES {
-        let n = next_of(phase_of(state(&ps[i])), k);
-        move_place(q, n, i, ps)
-    } else {
-        begin(m, q, k, ps)
+    // A new conversation takes its place.
+    fn open(self, ps: &mut RulePlaces) -> Progress
+        ensures { tracked_as result ps.new ≡ opened self.room self.quad (places_of ps.old) }
+    {
+        let i = self.seat(ps);
+        if i < usize::from(self.room.places) {
+            hold(self.quad, Phase::Opening, &mut ps[i]);
+            Progress::Holds
+        } else {
+            Progress::NoPlaceFree
+        }
+    }
+
+    // No such conversation is held: an open frame begins it.
+    fn begin(self, k: FlagKind, ps: &mut RulePlaces) -> Progress
+        ensures { tracked_as result ps.new ≡ begun self.room self.quad (places_of ps.old) k }
+    {
+        match k {
+            FlagKind::Open => self.open(ps),
+            FlagKind::Carry | FlagKind::End | FlagKind::Reset => Progress::NoConversation,
+        }
+    }
+
+    // A step of the conversation that is held, or of none.
+    #[tactic(auto, using(crate::proofs::TrackLaws::step_held, crate::proofs::TrackLaws::step_none))]
+    fn step(self, k: FlagKind, ps: &mut RulePlaces) -> Progress
+        ensures { tracked_as result ps.new ≡ step_of self.room self.quad (places_of ps.old) k }
+    {
+        let i = find_quad(self.quad, ps);
+        if i < PLACES {
+            let n = next_of(phase_of(state(&ps[i])), k);
+            move_place(self.quad, n, i, ps)
+        } else {
+            self.begin(k, ps)
+        }
     }
 }
 
 // The flags come first: wrong ones are told before a conversation is looked for.
+// The room is asked to be of places that there can be, and no Room says so of itself: the definition tracking_of gives one for every rule, one at fault too.
 pub fn track(m: Room, g: Turn, ps: &mut RulePlaces) -> Progress
     requires { m.places ≤ most_places }
     ensures { tracked_as result ps.new ≡ tracked_in m g.quad (places_of ps.old) g.flags }
 {
     match g.flags {
         None => Progress::WrongFlags,
-        Some(k) => take_step(m, g.quad, k, ps),
+        Some(k) => {
+            let sought = Sought {
+                room: m,
+                quad: g.quad,
+            };
+            sought.step(k, ps)
+        }
     }
 }

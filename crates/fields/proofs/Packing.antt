@@ -217,7 +217,9 @@ module _ (r : Rule) (w : List ℕ) (h : Held r w) where
       let m = mark_told (ip_unset s r.ipv6) h.ip in
       λ i. record {
         source = setting_read w ip_word (prefix_or unset) s.source 0 (m 0 refl) (λ j. record { address = told h.address 0 j; length = told h.ip 1 j }) i;
-        destination = setting_read w ip_word (prefix_or unset) s.destination 1 (m 1 refl) (λ j. record { address = told h.address 1 j; length = told h.ip 2 j }) i;
+        destination =
+            setting_read w ip_word (prefix_or unset) s.destination 1 (m 1 refl)
+            (λ j. record { address = told h.address 1 j; length = told h.ip 2 j }) i;
         protocol = setting_read w ip_word 0 s.protocol 2 (m 2 refl) (told h.ip 3) i;
       }
 
@@ -246,7 +248,9 @@ module _ (r : Rule) (w : List ℕ) (h : Held r w) where
       λ i. record {
         kind = setting_read w transport_word kind.Udp s.kind 0 (m 0 refl) (ap kind_from (told h.transport 1) ∙ kind_read s.kind) i;
         source = setting_read w transport_word (range_or unset) s.source 1 (m 1 refl) (λ j. record { low = told h.port 0 j; high = told h.port 1 j }) i;
-        destination = setting_read w transport_word (range_or unset) s.destination 2 (m 2 refl) (λ j. record { low = told h.port 2 j; high = told h.port 3 j }) i;
+        destination =
+            setting_read w transport_word (range_or unset) s.destination 2 (m 2 refl)
+            (λ j. record { low = told h.port 2 j; high = told h.port 3 j }) i;
       }
 
   someip_read : someip_in w ≡ r.someip

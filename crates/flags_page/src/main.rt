@@ -9,10 +9,8 @@ use std::io;
 
 fn main(rt: HostRuntime) -> io::Result<()> {
     print::title(&rt)?;
-    let mut n: usize = 0;
-    while n < FLAG_SETTINGS {
+    for n in 0..FLAG_SETTINGS {
         print::line(&rt, row::row_at(n))?;
-        n += 1;
     }
     print::legend(&rt)
 }

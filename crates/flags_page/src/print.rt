@@ -1,6 +1,7 @@
 // The page as text on standard output.
 use crate::row::{Done, Row};
-use flags::{FlagKind, Flags};
+use flags::{FlagKind, Phase};
+use std::fmt::Display;
 use std::io;
 use verdicts::verdict::Verdict;
 
@@ -23,65 +24,44 @@ pub(crate) fn title(rt: &impl Print) -> io::Result<()> {
 }
 
 fn flag(rt: &impl Print, set: bool, name: &str) -> io::Result<()> {
-    if set {
-        left(rt, name, 4)
-    } else {
-        rt.print(" -  ")
-    }
+    left(rt, if set { name } else { " -" }, 4)
 }
 
-fn kind(rt: &impl Print, k: FlagKind) -> io::Result<()> {
-    match k {
-        FlagKind::Open => rt.print(" open       "),
-        FlagKind::Carry => rt.print(" carry      "),
-        FlagKind::End => rt.print(" end        "),
-        FlagKind::Reset => rt.print(" reset      "),
-    }
+fn counts_as(rt: &impl Print, f: Option<FlagKind>) -> io::Result<()> {
+    rt.print(match f {
+        None => " wrong      ",
+        Some(FlagKind::Open) => " open       ",
+        Some(FlagKind::Carry) => " carry      ",
+        Some(FlagKind::End) => " end        ",
+        Some(FlagKind::Reset) => " reset      ",
+    })
 }
 
-fn counts_as(rt: &impl Print, f: Flags) -> io::Result<()> {
+// A verb and what it is of, and spaces up to a width.
+fn verb(rt: &impl Print, verb: &str, of: impl Display + Copy, width: usize) -> io::Result<()> {
+    let rest = width.saturating_sub(verb.len());
+    print!(rt; "{verb}{of:<rest$}")
+}
+
+fn name(f: Phase) -> &'static str {
     match f {
-        Flags::Wrong => rt.print(" wrong      "),
-        Flags::Kind(k) => kind(rt, k),
-    }
-}
-
-fn blocked(rt: &impl Print, verdict: u8, width: usize) -> io::Result<()> {
-    let rest = width.saturating_sub(8);
-    print!(rt; "blocked {verdict:<rest$}")
-}
-
-fn stays(rt: &impl Print, state: u64, width: usize) -> io::Result<()> {
-    match state {
-        1 => left(rt, "stays Opening", width),
-        2 => left(rt, "stays Running", width),
-        _ => left(rt, "stays Closing", width),
-    }
-}
-
-fn becomes(rt: &impl Print, state: u64, width: usize) -> io::Result<()> {
-    match state {
-        1 => left(rt, "becomes Opening", width),
-        2 => left(rt, "becomes Running", width),
-        _ => left(rt, "becomes Closing", width),
+        Phase::Opening => "Opening",
+        Phase::Running => "Running",
+        Phase::Closing => "Closing",
     }
 }
 
 // What becomes of a segment and of its conversation, which was held in the state before.
-fn cell(rt: &impl Print, before: u64, d: Done, width: usize) -> io::Result<()> {
+fn cell(rt: &impl Print, before: Option<Phase>, d: Done, width: usize) -> io::Result<()> {
     if d.verdict != Verdict::ALLOWED {
-        return blocked(rt, d.verdict, width);
+        return verb(rt, "blocked ", d.verdict, width);
     }
-    if d.state == 0 {
-        return left(rt, "is removed", width);
+    match (before, d.state) {
+        (_, None) => left(rt, "is removed", width),
+        (None, Some(_)) => left(rt, "is opened", width),
+        (Some(f), Some(g)) if f == g => verb(rt, "stays ", name(g), width),
+        (Some(_), Some(g)) => verb(rt, "becomes ", name(g), width),
     }
-    if before == 0 {
-        return left(rt, "is opened", width);
-    }
-    if d.state == before {
-        return stays(rt, d.state, width);
-    }
-    becomes(rt, d.state, width)
 }
 
 pub(crate) fn line(rt: &impl Print, r: Row) -> io::Result<()> {
@@ -90,10 +70,10 @@ pub(crate) fn line(rt: &impl Print, r: Row) -> io::Result<()> {
     flag(rt, r.rst, "RST")?;
     flag(rt, r.ack, "ACK")?;
     counts_as(rt, r.flags)?;
-    cell(rt, 0, r.nothing, NARROW)?;
-    cell(rt, 1, r.opening, WIDE)?;
-    cell(rt, 2, r.running, WIDE)?;
-    cell(rt, 3, r.closing, LAST)?;
+    cell(rt, None, r.nothing, NARROW)?;
+    cell(rt, Some(Phase::Opening), r.opening, WIDE)?;
+    cell(rt, Some(Phase::Running), r.running, WIDE)?;
+    cell(rt, Some(Phase::Closing), r.closing, LAST)?;
     rt.print("\n")
 }
 

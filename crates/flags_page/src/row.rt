@@ -1,32 +1,24 @@
 // A line of the page, before it is text.
 ghost use Rattle.std.specs.Prelude.{◌≡◌, ◌<◌};
-ghost use Rattle.places.specs.Places.{places_of};
-ghost use Rattle.verdicts.specs.Rule.{verdict_of};
-ghost use Rattle.flags_page.specs.Page.{places_with, done_of, row_of};
+ghost use Rattle.places.specs.Places.{place_of, places_of};
+ghost use Rattle.flags_page.specs.Page.{places_with, phase_in, done_of, row_of};
 
+use conversations::Turn;
 use conversations::track::track;
-use conversations::{Progress, Turn};
-use flags::{Flags, KINDS, Phase};
-use places::place::{no_quad, place_words, state};
-use places::{PLACE_WORDS, RulePlaces};
+use flags::{FlagKind, KINDS, Phase};
+use places::place::{no_quad, phase_of, place_words, state};
+use places::{PLACE_WORDS, PlaceWords, RulePlaces};
 use table::{PLACES, Room};
 use verdicts::verdict::Verdict;
 
 // How many places a rule may have, as its setting says it.
 const MOST_PLACES: u8 = PLACES as u8;
 
-// How the frame's conversation is held before it.
-#[derive(Clone, Copy)]
-pub enum Held {
-    Nothing,
-    As(Phase),
-}
-
-// What tracking does with the frame: its verdict, and the number of the state in which its conversation is held after it, 0 for none.
+// What tracking does with the frame: the number of its verdict, as the page prints it, and the state in which its conversation is held after it, if it is.
 #[derive(Clone, Copy)]
 pub struct Done {
     pub verdict: u8,
-    pub state: u64,
+    pub state: Option<Phase>,
 }
 
 #[derive(Clone, Copy)]
@@ -35,40 +27,35 @@ pub struct Row {
     pub syn: bool,
     pub rst: bool,
     pub ack: bool,
-    pub flags: Flags,
+    pub flags: Option<FlagKind>,
     pub nothing: Done,
     pub opening: Done,
     pub running: Done,
     pub closing: Done,
 }
 
-fn places_with(h: Held) -> RulePlaces
+// The frame's conversation is held so before it, or not.
+fn places_with(h: Option<Phase>) -> RulePlaces
     ensures { places_of result ≡ places_with h }
 {
     let mut places = [[0; PLACE_WORDS]; PLACES];
-    match h {
-        Held::Nothing => places,
-        Held::As(f) => {
-            places[0] = place_words(no_quad(false), f, 0);
-            places
-        }
+    if let Some(f) = h {
+        places[0] = place_words(no_quad(false), f, 0);
     }
+    places
 }
 
-fn verdict_of(p: Progress) -> u8
-    ensures { result ≡ verdict_of p }
+fn phase_in(p: &PlaceWords) -> Option<Phase>
+    ensures { result ≡ phase_in (place_of p.now) }
 {
-    match p {
-        Progress::Holds => Verdict::ALLOWED,
-        Progress::WrongFlags => Verdict::WRONG_FLAGS,
-        Progress::NoConversation => Verdict::NO_CONVERSATION,
-        Progress::NotInState => Verdict::NOT_IN_STATE,
-        Progress::NoPlaceFree => Verdict::NO_PLACE_FREE,
+    match state(p) {
+        0 => None,
+        n => Some(phase_of(n)),
     }
 }
 
 // A rule with as many places as there can be, all of them for each socket, tracks a frame of socket 0.
-fn tracked(flags: Flags, h: Held) -> Done
+fn tracked(flags: Option<FlagKind>, h: Option<Phase>) -> Done
     ensures { result ≡ done_of flags h }
 {
     let mut places = places_with(h);
@@ -82,10 +69,10 @@ fn tracked(flags: Flags, h: Held) -> Done
         quad: no_quad(false),
         flags,
     };
-    let progress = track(room, turn, &mut places);
+    let verdict = Verdict::from(track(room, turn, &mut places));
     Done {
-        verdict: verdict_of(progress),
-        state: state(&places[0]),
+        verdict: verdict.number(),
+        state: phase_in(&places[0]),
     }
 }
 
@@ -101,9 +88,9 @@ pub(crate) fn row_at(n: usize) -> Row
         rst: n / 2 % 2 == 1,
         ack: n % 2 == 1,
         flags,
-        nothing: tracked(flags, Held::Nothing),
-        opening: tracked(flags, Held::As(Phase::Opening)),
-        running: tracked(flags, Held::As(Phase::Running)),
-        closing: tracked(flags, Held::As(Phase::Closing)),
+        nothing: tracked(flags, None),
+        opening: tracked(flags, Some(Phase::Opening)),
+        running: tracked(flags, Some(Phase::Running)),
+        closing: tracked(flags, Some(Phase::Closing)),
     }
 }

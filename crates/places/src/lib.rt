@@ -13,6 +13,7 @@ use table::{PLACES, RULES};
 // 1: expected number 32 (no meaning yet), both ports 32
 // 2, 3: source address, its high 64 bits and its low 64; an IPv4 address stands in the lowest 32, and above it all is zero
 // 4, 5: destination address, likewise
+// Words and no struct: the definition place_of reads a place from them.
 pub type PlaceWords = [u64; PLACE_WORDS];
 
 // The places of one rule, and those of all rules.

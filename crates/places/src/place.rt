@@ -21,7 +21,7 @@ use crate::*;
 use addresses::Address;
 use flags::Phase;
 
-// 0 where the place is free, else the number of its phase.
+// 0 where the place is free, else the number of its phase. A number and no Option: the definition place_of has the state so.
 pub fn state(p: &PlaceWords) -> u64
     ensures { result ≡ (place_of p.now).state }
 {
@@ -58,7 +58,7 @@ pub fn quad(p: &PlaceWords) -> Quad
     }
 }
 
-// No conversation, of a socket.
+// No conversation, of a socket. This and the next two are three functions and none generic: the definitions no_quad, ipv4_quad and ipv6_quad name them.
 pub fn no_quad(second: bool) -> Quad
     ensures { result ≡ no_quad second }
 {
@@ -122,7 +122,7 @@ pub fn same_quad(a: Quad, b: Quad) -> bool
     a == b
 }
 
-// Every number but 1 and 2 is Closing.
+// Every number but 1 and 2 is Closing, as the definition phase_of has it: so it is no TryFrom.
 pub fn phase_of(state: u64) -> Phase
     ensures { result ≡ phase_of state }
 {

@@ -15,7 +15,7 @@ use Rattle.layers.specs.Layers.{least, most, too_short, shown_of}
 use Rattle.layers.specs.declared.FrameRefusal.{FrameRefusal}
 use Rattle.layers.specs.declared.FrameRefusal.TheVariants as refusal
 use Rattle.layers.specs.declared.Layers.{Layers}
-use Rattle.std.specs.Prelude.{Result}
+use Rattle.std.specs.Prelude.{Result, Ok, Err}
 use Rattle.table.specs.declared.Table.{Table}
 use Rattle.faults.specs.Faults.{fault_of}
 use Rattle.records.specs.Records.{Lent}
@@ -30,7 +30,6 @@ use Rattle.lines.specs.Lines.{text_of}
 use Rattle.lines.specs.declared.Line.{Line}
 use Rattle.recording.specs.Run.{Run, run, begun, Begun, judged, line_as, line_of, run_by, lines_of, text_of_all}
 use Rattle.recording.proofs.OnJudging.{blank}
-use Rattle.std.specs.Prelude.{Ok, Err}
 
 -- ---- the text of lines
 

@@ -1,6 +1,6 @@
 -- "It reads by parts and answers as for the whole."
 -- Assumes nothing.
-use Rattle.std.specs.Prelude.{ℕ, ◌≡◌, List, [], ◌++◌, length}
+use Rattle.std.specs.Prelude.{ℕ, ◌≡◌, List, [], ◌++◌, length, Ok}
 use Rattle.numbers.specs.Lists.{joined, ends, said}
 use Rattle.table.specs.declared.Table.{Table}
 use Rattle.faults.specs.Faults.{fault_of}
@@ -8,7 +8,6 @@ use Rattle.records.specs.Records.{Lent}
 use Rattle.capture.specs.Parts.{Kept, kept, AtRest, Happening, go_on, finds, all_of}
 use Rattle.capture.specs.declared.State.TheVariants as state
 use Rattle.recording.specs.Run.{Run, run, run_by, text_from, end_text, printed}
-use Rattle.std.specs.Prelude.{Ok}
 
 -- between two calls: what the reader keeps, and the run
 pub record Going : Type 0 where

@@ -1,6 +1,6 @@
 -- One call: the records that are whole in the bytes at hand are judged, and their lines are written.
 -- Assumes nothing.
-use Rattle.std.specs.Prelude.{ℕ, suc, ◌+◌, ◌/◌, ◌<◌, ◌≡◌, List, ◌++◌, Bool, length, take, drop}
+use Rattle.std.specs.Prelude.{ℕ, suc, ◌+◌, ◌/◌, ◌<◌, ◌≡◌, List, ◌++◌, Bool, length, take, drop, Ok}
 use Rattle.numbers.specs.Lists.{ends, written, Wrote}
 use Rattle.table.specs.declared.Table.{Table}
 use Rattle.faults.specs.Faults.{fault_of}
@@ -13,7 +13,6 @@ use Rattle.capture.specs.declared.Found.TheVariants as found
 use Rattle.lines.specs.Lines.{line_room}
 use Rattle.recording.specs.Run.{Run, run, Begun, run_by, text_from}
 use Rattle.recording.specs.declared.Fed.{Fed}
-use Rattle.std.specs.Prelude.{Ok}
 
 -- what a call of at most n moves asks: a good table, good records once one has begun them, and that the places of its records fit into 64 bits
 pub record Ready (t : Table) (w : Lent) (place n : ℕ) : Type 0 where

@@ -19,9 +19,7 @@ use Rattle.records.specs.Step.{reaction, acted}
 use Rattle.records.proofs.CodeLaws.{rule_set, count_set}
 use Rattle.records.proofs.WordLaws.{rules_at}
 use Rattle.records.proofs.GoodLaws.{at_rule, at_default}
-use Rattle.std.specs.Prelude.{Option}
-use Rattle.std.specs.Prelude.{Some, None}
-use Rattle.std.specs.Prelude.{Ok}
+use Rattle.std.specs.Prelude.{Option, Some, None, Ok}
 
 -- ---- what a part asks of the rule that decides
 

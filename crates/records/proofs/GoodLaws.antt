@@ -48,9 +48,7 @@ use Rattle.verdicts.proofs.RuleLaws.{
   reacted_fit,
 }
 use Rattle.table.specs.declared.Rate.{Rate}
-use Rattle.std.specs.Prelude.{Option}
-use Rattle.std.specs.Prelude.{Some, None}
-use Rattle.std.specs.Prelude.{Ok}
+use Rattle.std.specs.Prelude.{Option, Some, None, Ok}
 
 -- ---- a good table
 

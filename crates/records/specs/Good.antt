@@ -1,6 +1,6 @@
 -- When a record is bad. Document 01, 'The records'.
 -- Assumes nothing.
-use Rattle.std.specs.Prelude.{ℕ, ◌≤◌, ◌≡◌, Bool, true, ◌&&◌, ◌||◌, List, [], get_or, ltb}
+use Rattle.std.specs.Prelude.{ℕ, ◌≤◌, ◌≡◌, Bool, true, ◌&&◌, ◌||◌, List, [], get_or, ltb, None}
 use Rattle.numbers.specs.Lists.{all_below}
 use Rattle.table.specs.declared.Rule.{Rule}
 use Rattle.table.specs.declared.Table.{Table}
@@ -9,7 +9,6 @@ use Rattle.places.specs.Good.{empty_from}
 use Rattle.verdicts.specs.Record.{RuleRecord, no_record, rule_of}
 use Rattle.verdicts.specs.Good.{levels_good, record_good}
 use Rattle.records.specs.Records.{Records, record_at, count_rows}
-use Rattle.std.specs.Prelude.{None}
 
 -- the rule of a record: none at the default's place, nor beyond the rule count
 abbrev pub rule_of_record : Table → ℕ → Rule

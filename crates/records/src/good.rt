@@ -8,8 +8,8 @@ ghost use Rattle.records.specs.Good.{level_from, slots_good, rules_good, records
 
 use crate::*;
 use goodness::good_beyond;
-use table::words::{TableWords, rulecount, statecount};
 use table::RULES;
+use table::words::{TableWords, rulecount, statecount};
 use verdicts::good::{good_levels, good_rule};
 use verdicts::{LEVEL0, LEVEL1};
 

@@ -42,8 +42,7 @@ use Rattle.events.specs.declared.Event.TheVariants as event
 use Rattle.steps.specs.declared.Answer.{Answer}
 use Rattle.steps.specs.Steps.{quad_of, turn_in, turn_of, id_at, best_event, event_of, outcome_of, stepped, stepped_as}
 use Rattle.table.specs.declared.Room.{Room}
-use Rattle.std.specs.Prelude.{Option, Some, None}
-use Rattle.std.specs.Prelude.{Ok}
+use Rattle.std.specs.Prelude.{Option, Some, None, Ok}
 use Rattle.verdicts.specs.Verdict.{verdict_number}
 
 -- ---- who decides

@@ -1,6 +1,6 @@
 -- What the clock can change. Document 01, step 1: "Elapsed = reading less last reading, or 0 if it went back; the reading becomes the last".
 -- Assumes nothing.
-use Rattle.std.specs.Prelude.{ℕ, ◌+◌, ◌-◌, ◌<◌, ◌≤◌, ◌≡◌, List, [], ◌∷◌, map}
+use Rattle.std.specs.Prelude.{ℕ, ◌+◌, ◌-◌, ◌<◌, ◌≤◌, ◌≡◌, List, [], ◌∷◌, map, None, Ok}
 use Rattle.numbers.specs.Lists.{ends, said}
 use Rattle.layers.specs.Layers.{shown_of}
 use Rattle.layers.specs.Seen.{seen}
@@ -13,8 +13,6 @@ use Rattle.steps.specs.Steps.{Arrival, arrival, is_second}
 use Rattle.firewall.specs.Firewall.{After, judge_of}
 use Rattle.theorems.specs.Run.{Item, arrives, switches, go, tell}
 use Rattle.theorems.specs.Statements.{is_answer}
-use Rattle.std.specs.Prelude.{None}
-use Rattle.std.specs.Prelude.{Ok}
 
 -- words that differ in the last reading alone
 pub record ButLast (v w : Lent) : Type 0 where

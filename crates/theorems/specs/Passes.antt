@@ -1,7 +1,7 @@
 -- Demand 2's own sentence: "A frame passes exactly when the first active rule that matches it, or the default, allows it
 -- and that rule's rate limit and TCP tracking hold."
 -- Assumes nothing.
-use Rattle.std.specs.Prelude.{ℕ, ◌<◌, ◌↔◌, ◌≡◌, Bool, true, false, cond, ◌&&◌, not, List, length, get_or, ltb}
+use Rattle.std.specs.Prelude.{ℕ, ◌<◌, ◌↔◌, ◌≡◌, Bool, true, false, cond, ◌&&◌, not, List, length, get_or, ltb, Option, Some, None, Ok}
 use Rattle.layers.specs.Layers.{shown_of}
 use Rattle.layers.specs.Seen.{Seen}
 use Rattle.layers.specs.declared.Layers.{Layers}
@@ -25,7 +25,6 @@ use Rattle.verdicts.specs.Rule.{allowed, allowed_by_default, level_of, raised, o
 use Rattle.records.specs.Step.{ticked}
 use Rattle.steps.specs.Steps.{Arrival, seen_of, turn_of}
 use Rattle.firewall.specs.Firewall.{answered, judge_of}
-use Rattle.std.specs.Prelude.{Option, Some, None, Ok}
 
 -- ---- "the first active rule that matches it"; x is what is seen of the frame
 

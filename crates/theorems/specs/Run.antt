@@ -1,6 +1,6 @@
 -- A run: calls one after the other, on one table and one record.
 -- Assumes nothing.
-use Rattle.std.specs.Prelude.{ℕ, zero, suc, ◌≤◌, ◌≡◌, true, List, [], ◌∷◌, length}
+use Rattle.std.specs.Prelude.{ℕ, zero, suc, ◌≤◌, ◌≡◌, true, List, [], ◌∷◌, length, Ok}
 use Rattle.numbers.specs.Lists.{swap_at}
 use Rattle.layers.specs.Layers.{shown_of}
 use Rattle.layers.specs.declared.Layers.{Layers}
@@ -11,7 +11,6 @@ use Rattle.records.specs.Good.{records_good}
 use Rattle.events.specs.Events.{event_room}
 use Rattle.steps.specs.Steps.{Arrival, seen_of}
 use Rattle.firewall.specs.Firewall.{Said, switch_of, judge_of}
-use Rattle.std.specs.Prelude.{Ok}
 
 -- a frame that arrives, with the event space as the call finds it; or a switch of vehicle state
 pub data Item : Type 0 where

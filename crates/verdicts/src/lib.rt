@@ -7,7 +7,7 @@ mod rate;
 pub mod reacting;
 pub mod verdict;
 
-// The levels of socket 0 and socket 1, passed, blocked.
+// The levels of socket 0 and socket 1, passed, blocked. Words and no struct: the definition rule_of reads a record from them.
 pub type CountWords = [u32; COUNT_WORDS];
 
 pub const COUNT_WORDS: usize = 4;
