@@ -145,6 +145,7 @@ impl Standing {
         requires ready { Ready (table_in t.now) self.old.words self.old.position.place most_moves }
         ensures { self.new ≡ called (table_in t.now) self.old }
     {
+        // Taken apart, and the buffer made a & at once: only so it is known to stay while its neighbours are lent as &mut.
         let Standing {
             position: p,
             buffer,

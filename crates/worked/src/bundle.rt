@@ -99,6 +99,7 @@ fn step<R: Print>(
 }
 
 // From a fresh record: rule 10 wants service 0x1000 and type 0x80 of every message.
+// Calls and not a list: each is proved to stay within the frame by its own numbers, which a list that is walked does not show.
 pub(crate) fn bundles<R: Print>(bench: &mut Bench<R>) -> io::Result<()> {
     println!(bench.rt;
         "\nseveral messages in one datagram, to port 30501, each of service 0x1000 and type 0x80"

@@ -110,6 +110,7 @@ pub(crate) fn segments<R: Print>(rt: &R) -> io::Result<()> {
     let w = laid(t);
     let mut bench = Bench::new(rt, &w);
     bench.begin()?;
+    // Calls and not a list: each is proved to stay within the frame by its own numbers.
     step(&mut bench, "SYN", TCP, 0, SYN)?;
     step(&mut bench, "ACK behind one header", OPTIONS, 1, ACK)?;
     step(&mut bench, "ACK behind eight headers", OPTIONS, 8, ACK)?;
