@@ -8,7 +8,7 @@ use crate::calls::UNWRITTEN;
 use addresses::{Address, Wide};
 use firewall::Refusal;
 use layers::{FrameRefusal, Layers};
-use packets::{Ip, Link, Packet6, Tag};
+use packets::{Ip, Link, Packet6};
 use payloads::someip_layer::message_at;
 use payloads::{Bundle, Segment, Transport};
 use places::place::{age, destination, quad, source, state};

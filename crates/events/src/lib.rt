@@ -1,7 +1,7 @@
 // The event's bytes, row by row of 001 section 7.6.1.
 #![tactic(auto)]
 
-ghost use Rattle.std.specs.Prelude.{◌≡◌, Bool, ◌++◌, ◌/◌, ◌%◌, ◌≤◌, length, drop};
+ghost use Rattle.std.specs.Prelude.{◌≡◌, Bool, ◌++◌, ◌≤◌, length, drop};
 ghost use Rattle.numbers.specs.Bytes.{byte};
 ghost use Rattle.numbers.specs.Lists.{Wrote};
 ghost use Rattle.layers.specs.Layers.{least};

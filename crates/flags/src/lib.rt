@@ -1,7 +1,7 @@
 // The flags of a segment: what they count as, and which step that is for a conversation.
 #![tactic(auto)]
 
-ghost use Rattle.std.specs.Prelude.{◌≡◌, cond, ◌<◌, ◌≤◌};
+ghost use Rattle.std.specs.Prelude.{◌≡◌, ◌<◌};
 ghost use Rattle.flags.specs.Flags.{kind_of, next_of};
 ghost use Rattle.flags.specs.Kinds.{entry_of};
 

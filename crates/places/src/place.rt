@@ -1,5 +1,5 @@
 // The words of one place, read and made.
-ghost use Rattle.std.specs.Prelude.{◌≡◌, cond, ◌/◌, ◌^◌};
+ghost use Rattle.std.specs.Prelude.{◌≡◌, ◌/◌, ◌^◌};
 ghost use Rattle.places.specs.Places.{
   place_of,
   place_words,
