@@ -219,6 +219,7 @@ fn fill(header: &[u8], space: &mut [u8])
     }
 }
 
+// That the frame has 14 bytes is a clause here and in those that call, and no fact of what is seen: whoever matches asks no more than that its layers lie inside.
 // Writes the event to the start of the space, and nothing beyond it. No event shows the socket.
 pub fn write(e: Event, id: u16, x: &Seen, space: &mut [u8]) -> usize
     requires long { least ≤ length x.now.frame.now }

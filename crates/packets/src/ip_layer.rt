@@ -27,6 +27,7 @@ const VERSION: usize = 4;
 
 const WHOLE_SUM: u16 = 0xFFFF;
 
+// The frame and where its rest starts, here and below, and not the rest alone: every offset that is answered counts from the frame's start.
 // Not one function with `ipv6_here`: each header has tests of its own, which differ in more than their numbers.
 #[tactic(auto, unfolding(crate::specs::Ip::ipv4_here, crate::specs::Ip::ipv4_tests))]
 fn ipv4_here(s: &[u8], ether: u16, at: usize) -> bool

@@ -57,21 +57,21 @@ struct Shown<'a>(&'a Judged);
 impl Display for Shown<'_> {
     fn fmt<W: Write>(&self, f: &mut Formatter<W>) -> fmt::Result {
         let Judged { answer, event } = self.0;
-        match answer {
-            Ok(a) if a.length != 0 => {
-                let service = read16(event, 4);
-                if service == 0 {
-                    write!(f, "shows no message")
-                } else {
-                    write!(
-                        f,
-                        "shows service 0x{service:04x}, type 0x{:02x}",
-                        event[4 + TYPE]
-                    )
-                }
-            }
-            _ => Ok(()),
+        let Ok(a) = answer else {
+            return Ok(());
+        };
+        if a.length == 0 {
+            return Ok(());
         }
+        let service = read16(event, 4);
+        if service == 0 {
+            return write!(f, "shows no message");
+        }
+        write!(
+            f,
+            "shows service 0x{service:04x}, type 0x{:02x}",
+            event[4 + TYPE]
+        )
     }
 }
 
