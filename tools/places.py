@@ -66,7 +66,7 @@ def together():
         t = code(t)
         for m in re.finditer(r"fn (\w+)[^{]*?head: &(?:mut )?Head,\s*counts: &(?:mut )?Counts,\s*places: &(?:mut )?Places", t):
             shared["head, counts, places"].add(f + " " + m.group(1))
-        for m in re.finditer(r"fn (\w+)(.*?)\n\{", t, re.S):
+        for m in re.finditer(r"fn (\w+)(.*?)\n\s*\{\n", t, re.S):
             for c in re.findall(r"requires (?:\w+ )?\{ (.*?) \}", m.group(2)):
                 shared["requires " + c].add(f + " " + m.group(1))
     for what, where in sorted(shared.items(), key=lambda x: -len(x[1])):

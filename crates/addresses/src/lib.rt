@@ -44,7 +44,7 @@ impl From<u32> for Wide {
     }
 }
 
-// Kind and all bits: an IPv4 address never equals an IPv6 one.
+// Kind and all bits: an IPv4 address never equals an IPv6 one. A function round `==`, since the paper's sentence is its promise.
 #[tactic(auto, unfolding(crate::specs::Addresses::same_address))]
 pub fn same_address(a: Address, b: Address) -> bool
     ensures { result ≡ same_address a b }

@@ -43,6 +43,7 @@ impl Held {
         }
     }
 
+    // The letters of docs/CASES.md choose the call. Input and output are handed apart: each call takes its bytes first, and prints when it is made.
     pub(crate) fn call(
         &mut self,
         letter: u8,

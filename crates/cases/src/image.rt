@@ -41,6 +41,7 @@ fn setting<T: Copy>(set: u32, bit: u32, value: T) -> Setting<T>
     }
 }
 
+// Two, since an address is read by a function of its kind.
 fn prefix(r: &RuleImage, at: usize) -> Prefix<u32>
     requires { at + 5 ≤ 192 }
 {
@@ -79,6 +80,7 @@ fn link(r: &RuleImage, set: u32) -> LinkSettings {
     }
 }
 
+// One for each kind of IP: the image gives each its offsets and its bits.
 fn ipv4(r: &RuleImage, set: u32) -> Ipv4Settings {
     IpSettings {
         source: setting(set, 5, prefix(r, 25)),

@@ -33,9 +33,8 @@ impl<R: Read> Input<R> {
     pub(crate) fn take(&mut self, to: usize, n: usize) -> Result<(), Stop>
         requires { to + n ≤ 33812 }
     {
-        match self.reader.read_exact(&mut self.image[to..to + n]) {
-            Ok(()) => Ok(()),
-            Err(_) => Err(Stop::NoCall),
-        }
+        self.reader
+            .read_exact(&mut self.image[to..to + n])
+            .map_err(|_| Stop::NoCall)
     }
 }

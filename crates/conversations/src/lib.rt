@@ -15,7 +15,7 @@ pub struct Turn {
     pub flags: Option<FlagKind>,
 }
 
-// What tracking says of a frame: it holds, or why not.
+// What tracking says of a frame: it holds, or why not. Five cases and no Result round four: each is a verdict of its own (definition verdict_of).
 #[derive(Clone, Copy, PartialEq, Eq)]
 pub enum Progress {
     Holds,

@@ -15,7 +15,7 @@ use table::{PLACES, Room};
 
 // ---- finding
 
-// The place that holds the quadruple, or PLACES.
+// The place that holds the quadruple, or PLACES; here and below the number of places says that there is none, as the definitions held_at, free_at and seat_of have it.
 fn find_quad(q: Quad, ps: &RulePlaces) -> usize
     ensures { result ≡ held_at q (places_of ps.now) }
 {

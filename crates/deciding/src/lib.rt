@@ -36,7 +36,7 @@ const LAYERS: usize = 4;
 
 const WHOLE: usize = LAYERS + 1;
 
-// One more than the layers matched of an active rule, and 0 for one that is not active.
+// One more than the layers matched of an active rule, and 0, no Option, for one that is not active: the definition score_of has it so.
 fn score(r: &RuleWords, marks: u64, i: usize, x: &Seen) -> usize
     requires { i < most_rules }
     ensures { result ≡ cond (marked_at marks i) (suc (leading (layer_tests (rule_in r.now) (seen_in x.now)))) 0 }

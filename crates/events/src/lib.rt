@@ -214,8 +214,8 @@ fn byte_at(s: &[u8], i: usize) -> u8
 fn fill(header: &[u8], space: &mut [u8])
     ensures { space.new ≡ array (length space.old) header.now }
 {
-    for i in 0..space.len() {
-        space[i] = byte_at(header, i);
+    for (i, b) in space.iter_mut().enumerate() {
+        *b = byte_at(header, i);
     }
 }
 

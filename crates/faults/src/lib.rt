@@ -26,7 +26,7 @@ pub enum AtFault {
 // The id of no good rule: it stands behind the last.
 const NO_ID: u16 = 65535;
 
-// The ids of the rules, in table order.
+// The ids of the rules, in table order: of a fixed number, since nothing here may fail for memory (definition Listed).
 fn ids_of(t: &TableWords, count: usize) -> [u16; RULES]
     requires { count ≤ most_rules }
     ensures { Listed (table_in t.now) result count }
@@ -43,8 +43,8 @@ fn times(ids: &[u16; RULES], id: u16) -> u16
     ensures { result ≡ count_below (λ j. eqb (get_or ids.now j 0) id) most_rules }
 {
     let mut n = 0;
-    for j in 0..RULES {
-        n += u16::from(ids[j] == id);
+    for x in ids {
+        n += u16::from(*x == id);
     }
     n
 }
@@ -55,15 +55,7 @@ fn is_new(ids: &[u16; RULES], i: usize) -> bool
     ensures { result ≡ all_below (λ j. not (eqb (get_or ids.now j 0) (get_or ids.now i 0))) i }
 {
     let id = ids[i];
-    if times(ids, id) <= 1 {
-        return true;
-    }
-    for j in 0..i {
-        if ids[j] == id {
-            return false;
-        }
-    }
-    true
+    times(ids, id) <= 1 || !ids[..i].contains(&id)
 }
 
 // No mark stands at place n or beyond.
@@ -94,6 +86,7 @@ fn states_good(t: &TableWords, rulecount: usize, statecount: usize) -> bool
     if STATES < statecount {
         return false;
     }
+    // No `all`: that k is a state there is, its closure would have to be told.
     for k in 0..statecount {
         if !state_good(t, rulecount, k) {
             return false;

@@ -46,6 +46,7 @@ fn field(bits: u32, v: u64, above: u64) -> u64
 // What stands where a setting is unset.
 const NO_RANGE: Range = Range { low: 0, high: 0 };
 
+// Two, since a constant names its type.
 const NO_PREFIX: Prefix<u32> = Prefix {
     address: 0,
     length: 0,
@@ -63,7 +64,7 @@ pub fn address6(s: Setting<Prefix<Wide>>) -> Wide
     s.value_or(NO_PREFIX6).address
 }
 
-// The code of an action, and of a kind.
+// The code of an action, and of a kind: functions and no From, since words are laid by the definitions action_code and kind_code.
 pub fn action_code(a: Action) -> u64
     ensures value { result ≡ action_code a }
     ensures small { result < 256 }

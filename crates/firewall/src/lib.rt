@@ -70,7 +70,7 @@ pub fn switch(t: &TableWords, state: usize, words: &mut RecordWords) -> Result<(
 }
 
 // A frame judged by a table and a record that were checked. Both facts are clauses and no type: the records change, and then are told anew to be good.
-// Socket, frame and reading are parameters here and below, and no struct: whoever calls has them apart, and hands them on once.
+// Socket, frame and reading are parameters and no struct: whoever calls has them apart, and would make one for this call alone.
 fn judge_frame(
     t: &TableWords,
     words: &mut RecordWords,

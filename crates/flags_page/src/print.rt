@@ -23,6 +23,7 @@ pub(crate) fn title(rt: &impl Print) -> io::Result<()> {
     rt.print("FIN SYN RST ACK  counts as  not held    Opening          Running          Closing\n")
 }
 
+// A name in its column, or a dash.
 fn flag(rt: &impl Print, set: bool, name: &str) -> io::Result<()> {
     left(rt, if set { name } else { " -" }, 4)
 }
@@ -43,6 +44,7 @@ fn verb(rt: &impl Print, verb: &str, of: impl Display + Copy, width: usize) -> i
     print!(rt; "{verb}{of:<rest$}")
 }
 
+// As `worked` says them: each program has the words of its page.
 fn name(f: Phase) -> &'static str {
     match f {
         Phase::Opening => "Opening",

@@ -49,15 +49,3 @@ module _ (ps : List Place) (m : List ℕ) (told : Stamped ps m) where
       no j i l h e =
           let t = below_at (λ i. not (eqb (get_or m i 0) (get_or m j 0))) j i (below_at (new_at m) 8 j d h) l in
           false≢true (sym (not-true (eqb (get_or m i 0) (get_or m j 0)) t) ∙ eq-eqb (get_or m i 0) (get_or m j 0) (alike j i l h e))
-
--- ---- what the code's `contains` tells: no stamp below j is that at j
-
-pub new_is : (m : List ℕ) (j : ℕ) (b : Bool) → j ≤ length m → IsAnyAnswer (λ y t. eqb y (get_or m j 0) ≡ t) (take j m) b → not b ≡ new_at m j
-new_is m j true n h =
-    let l : h.0 < j = omega (arith, h.1, length-take-le j m n) in
-    sym (below_fails _ j h.0 l (ap (λ (y : ℕ). not (eqb y (get_or m j 0))) (sym (get_or-take j m h.0 0 l)) ∙ ap not (h.2 0)))
-new_is m j false n h =
-    sym
-    (below_all _ j
-    (λ i l.
-    ap (λ (y : ℕ). not (eqb y (get_or m j 0))) (sym (get_or-take j m i 0 l)) ∙ ap not (h i 0 (omega arith) (omega (arith, length-take-le j m n)))))

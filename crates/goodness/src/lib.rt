@@ -60,6 +60,7 @@ fn is_alone(j: usize, ps: &RulePlaces) -> bool
         return true;
     }
     let q = quad(&ps[j]);
+    // A for that ends early and no `any` or `all`, here and below: of those the proof did not close.
     for p in &ps[..j] {
         if is_held_by(q, p) {
             return false;
@@ -87,7 +88,7 @@ pub fn good_empty(ps: &RulePlaces) -> bool
     filled_rule(ps) == 0
 }
 
-// The places of all slots from one on, which have no rule: one straight walk over their words.
+// The places of all slots from one on, which have no rule: one straight walk over their words. From where is a clause here and in `records`, and no type: 64 is a count and no slot.
 pub fn good_beyond(from: usize, all: &AllPlaces) -> bool
     requires { from ≤ most_rules }
     ensures { result ≡ all_below (empty_from from all.now) most_rules }

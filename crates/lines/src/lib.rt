@@ -10,7 +10,7 @@ ghost use Rattle.lines.specs.Lines.{row, letter_r, two_words, text_of, line_room
 
 use digits::{put, word};
 
-// What a line tells: the file cut short, a bad file header, a record refused or judged. A time is in milliseconds, an event 0 where there is none.
+// What a line tells: the file cut short, a bad file header, a record refused or judged. A time is in milliseconds, an event 0 where there is none, and no Option: the line prints 0 (definition event_number).
 #[derive(Clone, Copy)]
 pub enum Line {
     Cut,

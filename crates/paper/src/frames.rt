@@ -125,7 +125,7 @@ fn put(f: Frame, bytes: &mut [u8; MOST])
     }
 }
 
-// A frame's bytes, with zeros after them, and how many they are, which is within the buffer.
+// A frame's bytes, with zeros after them, and how many they are, which is within the buffer: of a fixed size, since nothing here may fail for memory.
 #[tactic(auto, using(crate::proofs::Laws::within))]
 pub fn frame(f: Frame, bytes: &mut [u8; MOST]) -> usize
     ensures count { result ≡ length (frame_bytes f) }

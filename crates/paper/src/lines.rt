@@ -132,7 +132,7 @@ const PAGE: [Row; LINES] = [
     Row(11, false, 500, Frame::A, PASSED_10),
 ];
 
-// What stands beyond the last line: no example.
+// What stands beyond the last line: example 0, which is none, and no Option (definition no_line).
 const NO_LINE: Row = Row(0, false, 0, Frame::A, Expected::Refused(0));
 
 fn line_of(r: Row) -> Line

@@ -14,6 +14,7 @@ const NO_LINK: LinkSettings = LinkSettings {
     socket: Setting::Unset,
 };
 
+// Two, since a constant names its type.
 const NO_IPV4: Ipv4Settings = Ipv4Settings {
     source: Setting::Unset,
     destination: Setting::Unset,

@@ -71,6 +71,7 @@ pub fn no_quad(second: bool) -> Quad
     }
 }
 
+// One for each kind of IP, as the definitions ipv4_quad and ipv6_quad are.
 pub fn ipv4_quad(second: bool, source: u32, destination: u32, ports: u32) -> Quad
     ensures { result ≡ ipv4_quad second source destination ports }
 {
@@ -114,7 +115,7 @@ pub fn destination(q: Quad) -> Address
     }
 }
 
-// The same conversation.
+// The same conversation: a function round `==`, since the paper's sentence is its promise.
 #[tactic(auto, unfolding(crate::specs::Places::same_quad, addresses::specs::Addresses::same_address))]
 pub fn same_quad(a: Quad, b: Quad) -> bool
     ensures { result ≡ same_quad a b }
@@ -133,6 +134,7 @@ pub fn phase_of(state: u64) -> Phase
     }
 }
 
+// A function and no From: a place is made by the definition phase_word.
 fn phase_word(f: Phase) -> u64
     ensures { result ≡ phase_word f }
 {

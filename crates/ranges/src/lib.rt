@@ -173,7 +173,7 @@ fn head_fault(fresh: bool, r: &RuleWords) -> Result<(), SettingNumber>
     test(action_good(rule_action(r)), SettingNumber::Action)
 }
 
-// The same of each layer of a row. Where none of its settings is set none is at fault, which spares reading them.
+// The same of each layer of a row, each by the words and the tests of its own. Where none of its settings is set none is at fault, which spares reading them.
 fn link_in_row(r: &RuleWords) -> Result<(), SettingNumber>
     ensures { result ≡ fault_in (link_tests (link_in r.now)) }
 {

@@ -11,6 +11,7 @@ use records::RecordWords;
 use steps::step;
 use table::words::TableWords;
 
+// Place and words are handed apart, here and where they are fed: the words are lent and changed, the place goes on in what a call answers.
 // Fresh records at the first record's time; this call checks the table, which nothing else in a run does.
 pub(crate) fn begin(t: &TableWords, place: u64, time: u64, words: &mut RecordWords)
     ensures { words.new ≡ begun (table_in t.now) (run place words.old) time }

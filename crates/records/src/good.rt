@@ -19,6 +19,7 @@ fn no_levels(from: usize, counts: &Counts) -> bool
     ensures { result ≡ all_below (level_from from counts.now) most_rules }
 {
     let mut any = 0;
+    // By the index, of which the definition level_from speaks.
     for i in from..RULES {
         any |= counts[i][LEVEL0] | counts[i][LEVEL1];
     }
@@ -38,6 +39,7 @@ impl RecordWords {
         ensures { result ≡ rules_good (table_in t.now) (rule_records self.now.counts self.now.places) }
     {
         let n = rulecount(t).min(RULES);
+        // By the index, which is one of three arrays.
         for i in 0..n {
             if !good_rule(&t[i], &self.counts[i], &self.places[i]) {
                 return false;

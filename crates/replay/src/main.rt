@@ -123,7 +123,7 @@ fn is_over(p: Position) -> bool
 }
 
 impl Standing {
-    // Keeps what was not used, and reads behind it.
+    // Keeps what was not used, and reads behind it. That a position is sound is a clause here and below, and no fact of it: the definitions speak of every one.
     #[tactic(auto, using(crate::proofs::OnPosition::came_input))]
     fn refill<R: Read>(&mut self, from: &mut R)
         requires sound { Sound self.old.position }

@@ -40,7 +40,7 @@ impl Answer {
     pub const NO_RULE: u16 = 65535;
 }
 
-// What a verdict reports: nothing, an event of the decider, or the mismatch of the best fit.
+// What a verdict reports: nothing, an event of the decider, or the mismatch of the best fit. A value of its own, since the definition event_for tells it.
 #[derive(Clone, Copy)]
 pub enum Report {
     Nothing,

@@ -28,6 +28,7 @@ fn age_levels(b: Option<Rate>, elapsed: u64, c: &mut CountWords)
     }
 }
 
+// A rule, its counts and its places are handed apart, here and below: they lie in three arrays, and a struct of what is lent would be made anew for each call.
 // Time passes over one rule. Without bucket and tracking it is skipped.
 #[tactic(auto, using(crate::proofs::AgeLaws::rule_aged))]
 pub fn age_rule(r: &RuleWords, elapsed: u64, c: &mut CountWords, ps: &mut RulePlaces)

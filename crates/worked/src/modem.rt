@@ -33,7 +33,7 @@ const SYN: u8 = 2;
 
 const ACK: u8 = 16;
 
-// At most nine headers, a clause here and below and no type: each call names its number.
+// At most nine headers, a clause here and below and no type: what calls from without names the number.
 // So many headers of destination options, of eight bytes each, the last of which names TCP.
 fn options(n: usize) -> [u8; MOST]
     requires { n ≤ 9 }

@@ -5,15 +5,15 @@ use native.Mathlib.Omega.{arith}
 use Rattle.std.proofs.Common.{get_or, eqb}
 use Rattle.faults.proofs.times.Goals as goal
 
-pub loop-j-init : goal.loop-j-init
-loop-j-init c = (omega arith, count_none _)
+pub loop-x-init : goal.loop-x-init
+loop-x-init c = (omega arith, count_none _)
 
 pub overflow_add-n : goal.overflow_add-n
 overflow_add-n c =
-    let e = eqb (get_or c.args.ids.now c.loop-j.j 0) c.args.id in
-    omega (arith, c.loop-j.invariant.1, count_le (λ k. eqb (get_or c.args.ids.now k 0) c.args.id) c.loop-j.j, c.from-n.ensures ∙ flag_is e, flag_le e)
+    let e = eqb (get_or c.args.ids.now c.loop-x.x-index 0) c.args.id in
+    omega (arith, c.loop-x.invariant.1, count_le (λ k. eqb (get_or c.args.ids.now k 0) c.args.id) c.loop-x.x-index, c.from-n.ensures ∙ flag_is e, flag_le e)
 
-pub loop-j-preserved : goal.loop-j-preserved
-loop-j-preserved c =
-    let e = eqb (get_or c.args.ids.now c.loop-j.j 0) c.args.id in
-    (omega arith, count_next (λ k. eqb (get_or c.args.ids.now k 0) c.args.id) c.loop-j.j c.loop-j.n c.from-n.result c.loop-j.invariant.1 (c.from-n.ensures ∙ flag_is e))
+pub loop-x-preserved : goal.loop-x-preserved
+loop-x-preserved c =
+    let e = eqb (get_or c.args.ids.now c.loop-x.x-index 0) c.args.id in
+    (omega arith, count_next (λ k. eqb (get_or c.args.ids.now k 0) c.args.id) c.loop-x.x-index c.loop-x.n c.from-n.result c.loop-x.invariant.1 (c.from-n.ensures ∙ flag_is e))
