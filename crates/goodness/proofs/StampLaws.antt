@@ -1,16 +1,14 @@
 -- Where no two stamps are alike, no conversation stands twice.
 -- Assumes nothing.
-use Prim.Native.Nat.{ℕ, ◌<◌, ◌≤◌}
+use Prim.Native.Nat.{ℕ, ◌<◌}
 use mathlib.Core.Path.{◌≡◌, sym, ap, ◌∙◌}
-use mathlib.Core.Bool.{Bool, true, false, cond, not, false≢true}
+use mathlib.Core.Bool.{Bool, true, cond, not, false≢true}
 use mathlib.Core.List.{List}
-use lib.ListN.{length, get_or, take}
+use lib.ListN.{length, get_or}
 use lib.Dec.{eqb}
 use native.Mathlib.Omega.{arith}
-use Rattle.std.specs.List.{IsAnyAnswer}
-use Rattle.std.proofs.lemmas.List.{get_or-take, length-take-le}
 use borrow.Author.Tests.{eq-eqb, not-true}
-use Rattle.numbers.proofs.Lists.{and_both, below_at, below_all, below_fails}
+use Rattle.numbers.proofs.Lists.{and_both, below_at, below_all}
 use Rattle.places.specs.Places.{Place, free, is_free, places_of, holds}
 use Rattle.places.specs.Good.{repeats, alone, once}
 use Rattle.goodness.specs.Stamps.{stamp_of, place_stamp, Stamped, new_at, distinct}

@@ -46,12 +46,18 @@ pub(crate) fn stamps(ps: &RulePlaces) -> Stamps
     m
 }
 
-// No earlier stamp is that at j.
+// No earlier stamp is that at j. No `contains`: with it a rule whose places are held costs some 150 instructions more (docs/PERFORMANCE.md).
+#[tactic(auto, using(numbers::proofs::Lists::below_none, numbers::proofs::Lists::below_next))]
 fn is_new(j: usize, m: &Stamps) -> bool
     requires { j < most_places }
     ensures { result ≡ new_at m.now j }
 {
-    !m[..j].contains(&m[j])
+    for i in 0..j {
+        if m[i] == m[j] {
+            return false;
+        }
+    }
+    true
 }
 
 // No two are alike.
