@@ -220,7 +220,8 @@ fn fill(header: &[u8], space: &mut [u8])
 }
 
 // That the frame has 14 bytes is a clause here and in those that call, and no fact of what is seen: whoever matches asks no more than that its layers lie inside.
-// Writes the event to the start of the space, and nothing beyond it. No event shows the socket.
+// Writes the event to the start of the space, and nothing beyond it. No event shows the socket. The space is lent and the length told beside it, and no buffer
+// is made: nothing here may fail for memory (definition Wrote).
 pub fn write(e: Event, id: u16, x: &Seen, space: &mut [u8]) -> usize
     requires long { least ≤ length x.now.frame.now }
     requires room { longest_event ≤ length space.old }

@@ -14,7 +14,7 @@ use verdicts::verdict::Verdict;
 // How many places a rule may have, as its setting says it; `ranges`, which has it too, is above no page.
 const MOST_PLACES: u8 = PLACES as u8;
 
-// What tracking does with the frame: the number of its verdict, as the page prints it, and the state in which its conversation is held after it, if it is.
+// What tracking does with the frame: the number of its verdict, as the page prints it (a number and no Verdict, as the definition done_by has it), and the state in which its conversation is held after it, if it is.
 #[derive(Clone, Copy)]
 pub struct Done {
     pub verdict: u8,

@@ -22,7 +22,7 @@ pub(crate) fn begin(t: &TableWords, place: u64, time: u64, words: &mut RecordWor
     }
 }
 
-// The number at the start of an event, 0 where there is none.
+// The number at the start of an event, and 0, no Option, where there is none: the line prints 0 (definition event_number).
 #[tactic(auto, unfolding(crate::specs::Run::event_number, numbers::specs::Bytes::be))]
 fn event_number(length: usize, space: &[u8; ROOM]) -> u16
     ensures { result ≡ event_number length space.now }
