@@ -84,7 +84,7 @@ impl Bits for Wide {
 
 // Over two words: a prefix ends in the upper one, or the upper ones are the same and it ends in the lower.
 // They are handed one by one: of the fields of a struct by value a proof is not told that they fit.
-#[tactic(auto, using(crate::proofs::Prefixes::prefix_upper, crate::proofs::Prefixes::prefix_lower))]
+#[tactic(auto, using(crate::proofs::Prefixes::words_upper, crate::proofs::Prefixes::words_lower))]
 fn words_agree(n: u8, high: u64, low: u64, upper: u64, lower: u64) -> bool
     ensures { result ≡ prefix_agrees 128 n (high * 2 ^ 64 + low) (upper * 2 ^ 64 + lower) }
 {

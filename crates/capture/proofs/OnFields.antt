@@ -1,15 +1,17 @@
 -- Laws of the fields, each over the byte order and the width.
 -- Assumes nothing.
-use Prim.Native.Nat.{ℕ, suc, ◌+◌, ◌*◌, ◌≤◌, ◌<◌}
-use mathlib.Core.Path.{◌≡◌, refl}
-use mathlib.Core.List.{List, [], ◌∷◌, ◌++◌}
+use Prim.Native.Nat.{ℕ, zero, suc, ◌+◌, ◌*◌, ◌^◌, ◌≤◌, ◌<◌}
+use mathlib.Core.Path.{◌≡◌, refl, sym, ap, ◌∙◌}
+use mathlib.Core.List.{List, [], ◌∷◌, ◌++◌, reverse, reverse-append}
 use mathlib.Core.Bool.{Bool, cond, true, false}
+use native.Mathlib.Nat.{add_assoc, add_comm}
 use native.Mathlib.Numerals.{add-one}
 use native.Mathlib.Omega.{arith}
-use lib.ListN.{length, drop, length-drop}
-use lib.Seq.{drop-cons, drop-append-le, take-append-le}
+use lib.ListN.{length, drop, length-drop, length-reverse, get_or-append}
+use lib.Seq.{drop-cons, drop-append-le, take-append-le, take-add, drop-drop, length-take-le, get_or-append-add}
 use Rattle.numbers.specs.Bytes.{byte, be}
-use Rattle.capture.specs.Fields.{field, number_at}
+use Rattle.numbers.proofs.Laws.{be_one, be_two}
+use Rattle.capture.specs.Fields.{field, in_order, number_at}
 use Rattle.capture.specs.Capture.{is_of, form, header_of, time_of, head_of}
 use Rattle.capture.specs.declared.Form.{Form}
 
@@ -42,6 +44,65 @@ pub number_four :
 unfolding number_at be
 number_four true s i h = rw (field_four s i h) (omega arith)
 number_four false s i h = rw (field_four s i h) (omega arith)
+
+-- a number in the first of two lists, and one in the second
+be_front : (n : ℕ) (p q : List ℕ) (i : ℕ) → i + n ≤ length p → be n (p ++ q) i ≡ be n p i
+unfolding be
+be_front zero p q i h = refl
+be_front (suc n) p q i h = rw (be_front n p q i (omega arith), get_or-append p q 0 (i + n) (omega arith))
+
+be_behind : (n : ℕ) (p q : List ℕ) (i : ℕ) → be n (p ++ q) (length p + i) ≡ be n q i
+unfolding be
+be_behind zero p q i = refl
+be_behind (suc n) p q i = rw (be_behind n p q i, add_assoc (length p) i n, get_or-append-add p q (i + n) 0)
+
+be_joined :
+    (m n : ℕ) (p q : List ℕ) → length p ≡ m → length q ≡ n → be (m + n) (p ++ q) 0 ≡ be m p 0 * 256 ^ n + be n q 0
+be_joined m n p q a b =
+    let front : be m (p ++ q) 0 ≡ be m p 0 = be_front m p q 0 (omega arith) in
+    let behind : be n (p ++ q) (0 + m) ≡ be n q 0 = rw (← a) (ap (be n (p ++ q)) (omega arith) ∙ be_behind n p q 0) in
+    be_two m n (p ++ q) 0 ∙ rw (front, behind)
+
+field_length : (n : ℕ) (s : List ℕ) (i : ℕ) → i + n ≤ length s → length (field n s i) ≡ n
+field_length n s i h = length-take-le n (drop i s) (simp length-drop (omega arith))
+
+field_split : (m n : ℕ) (s : List ℕ) (i : ℕ) → field (m + n) s i ≡ field m s i ++ field n s (i + m)
+field_split m n s i = rw (take-add m n (drop i s), drop-drop m i s)
+
+-- THE FIELDS' LAW, over the byte order: a field is made of the two that lie in it
+pub number_joined :
+    (big : Bool) (m n : ℕ) (s : List ℕ) (i a b r : ℕ) → i + (m + n) ≤ length s → a ≡ number_at big m s i → b ≡ number_at big n s (i + m)
+    → r ≡ cond big (a * 256 ^ n + b) (b * 256 ^ m + a)
+    → r ≡ number_at big (m + n) s i
+unfolding number_at
+number_joined big m n s i a b r h ea eb er = er ∙ by_order big ea eb
+  where
+    f : List ℕ
+    f = field m s i
+
+    g : List ℕ
+    g = field n s (i + m)
+
+    by_order :
+        (o : Bool) → a ≡ be m (in_order o f) 0 → b ≡ be n (in_order o g) 0
+        → cond o (a * 256 ^ n + b) (b * 256 ^ m + a) ≡ be (m + n) (in_order o (field (m + n) s i)) 0
+    by_order true x y =
+        rw (x, y, field_split m n s i) (sym (be_joined m n f g (field_length m s i (omega arith)) (field_length n s (i + m) (omega arith))))
+    by_order false x y =
+        rw (x, y, field_split m n s i, reverse-append f g, add_comm m n)
+        (sym (be_joined n m (reverse g) (reverse f) (length-reverse g ∙ field_length n s (i + m) (omega arith)) (length-reverse f ∙ field_length m s i (omega arith))))
+
+-- of one byte
+pub number_one : (big : Bool) (s : List ℕ) (i a : ℕ) → i < length s → a ≡ byte s i → a ≡ number_at big 1 s i
+unfolding number_at
+number_one big s i a h e = e ∙ by_order big
+  where
+    one : field 1 s i ≡ byte s i ∷ []
+    one = rw (drop-cons s i 0 h)
+
+    by_order : (o : Bool) → byte s i ≡ be 1 (in_order o (field 1 s i)) 0
+    by_order true = rw one (sym (be_one (byte s i ∷ []) 0))
+    by_order false = rw one (sym (be_one (byte s i ∷ []) 0))
 
 -- a field that lies in p is the same whatever follows p
 pub number_front :

@@ -2,15 +2,15 @@
 -- Assumes nothing.
 use Prim.Native.Nat.{ℕ, suc, ◌+◌, ◌<◌, ◌≤◌}
 use mathlib.Core.Path.{◌≡◌, refl, sym, ap, ◌∙◌}
-use mathlib.Core.Bool.{Bool, true, false, cond, ◌&&◌, and-false}
+use mathlib.Core.Bool.{Bool, true, false, cond, ◌&&◌, not, and-false}
 use mathlib.Core.List.{List, [], ◌∷◌, map}
 use lib.ListN.{length, get_or, take, drop, length-map, get_or-map}
-use lib.Dec.{ltb}
+use lib.Dec.{ltb, eqb}
 use native.Mathlib.Nat.{add-zero, zero-add}
 use native.Mathlib.Omega.{arith}
 use borrow.Author.Tests.{lt-ltb, le-ltb}
 use Rattle.numbers.specs.Lists.{first_from, first}
-use Rattle.places.specs.Places.{Place, free, is_free, no_quad, place_of, holds}
+use Rattle.places.specs.Places.{Place, free, is_free, no_quad, place_of, same_quad, holds}
 use Rattle.conversations.specs.Tracking.{held_at, free_at}
 use Rattle.conversations.specs.Scan.{shown, vacant, shows, seen_by, scan_from, nowhere, scan_of}
 use Rattle.places.specs.declared.Quad.{Quad}
@@ -30,6 +30,17 @@ module _ {A B : Type 0} (f : A → B) where
 -- what the loader reads of the words of a place
 abbrev pub read : List ℕ → Conversation
 read w = shown (place_of w)
+
+-- ---- the step, as the code tests it
+
+pub seen_same :
+    (q : Quad) (c : Conversation) (i : ℕ) (f r : Found) (same : Bool) → same ≡ same_quad q c.quad
+    → r.held ≡ cond ((not (eqb c.state 0) && same) && ltb i f.held) i f.held
+    → r.free ≡ cond (eqb c.state 0 && ltb i f.free) i f.free → r ≡ seen_by q c i f
+unfolding seen_by
+seen_same q c i f r same s a b =
+    let h = a ∙ ap (λ (t : Bool). cond ((not (eqb c.state 0) && t) && ltb i f.held) i f.held) s in
+    λ k. record { held = h k; free = b k }
 
 -- ---- the loop: f is found before place i, and the rest of the scan from there gives what the whole gives
 

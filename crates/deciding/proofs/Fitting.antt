@@ -2,7 +2,7 @@
 -- Assumes nothing.
 use Prim.Native.Nat.{ℕ, zero, suc, ◌+◌, ◌-◌, ◌<◌, ◌≤◌, max}
 use mathlib.Core.Path.{◌≡◌, refl, sym, subst}
-use mathlib.Core.Bool.{Bool, true, false, cond}
+use mathlib.Core.Bool.{Bool, true, false, cond, ◌&&◌}
 use native.Mathlib.Nat.{le_of_lt, max-eq_left, max-eq_right, add-zero, add_assoc, add-sub_of_le}
 use native.Mathlib.Numerals.{add-one}
 use native.Mathlib.Omega.{arith}
@@ -88,6 +88,20 @@ fits_on f i place most (suc k) h q =
 pub fits_whole :
     (f : ℕ → ℕ) (i n place most : ℕ) → ((j : ℕ) → f j ≤ 5) → i ≤ n → 5 ≤ most → Fits f i place most → Fits f n place most
 fits_whole f i n place most h m e q = rw (← add-sub_of_le m) (fits_on f i place most (n - i) (λ j. omega (arith, h j)) q)
+
+-- or where the loop ends: all rules are looked at, or no score is above the greatest
+pub fits_end :
+    (f : ℕ → ℕ) (i n place most : ℕ) → ((j : ℕ) → f j ≤ 5) → i ≤ n → (ltb i n && ltb most 5) ≡ false → Fits f i place most
+    → Fits f n place most
+fits_end f i n place most h m e q = go (ltb i n) refl
+  where
+    go : (b : Bool) → ltb i n ≡ b → Fits f n place most
+    go true g =
+        let k : ltb most 5 ≡ false = rw g at e in
+        fits_whole f i n place most h m (ltb-false most 5 k) q
+    go false g =
+        let k : i ≡ n = omega (arith, ltb-false i n g) in
+        rw k at q
 
 -- there is such a place
 fits : (f : ℕ → ℕ) (n : ℕ) → (place : ℕ) × Fits f n place (greatest f n)

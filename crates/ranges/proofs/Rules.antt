@@ -8,7 +8,7 @@ use Rattle.table.specs.Settings.{within, is_unset}
 use Rattle.table.specs.declared.Setting.{Setting}
 use Rattle.table.specs.declared.Setting.TheVariants.{Unset as unset, Set as set}
 use Rattle.ranges.specs.Ranges.{any, may_track, Test, head_tests, link_tests, ipv6_good, ip_tests, transport_tests, someip_tests, rate_tests, tracking_tests, rule_tests, all_good, fault_in}
-use Rattle.ranges.proofs.Tests.{and_then, fault_after, rest_good}
+use Rattle.ranges.proofs.Tests.{and_then, fault_after, settings_named, rest_good}
 use Rattle.std.specs.Prelude.{Ok}
 use Rattle.table.specs.declared.SomeipSettings.{SomeipSettings}
 use Rattle.table.specs.declared.Rule.{Rule}
@@ -53,6 +53,11 @@ module _ (r : Rule) where
   from_link = link_tests r.link ++ from_ip
 
 module _ (fresh : Bool) (r : Rule) where
+  -- no setting has the number that stands for none
+  pub rule_named : settings_named (rule_tests fresh r) ≡ true
+  unfolding rule_tests
+  rule_named = refl
+
   -- those of tracking, which stand last, are good where all are
   pub tracking_good : all_good (rule_tests fresh r) ≡ true → all_good (from_tracking r) ≡ true
   unfolding rule_tests

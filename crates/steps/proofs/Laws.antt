@@ -40,10 +40,19 @@ use Rattle.events.specs.Events.{event_bytes, mismatch_of}
 use Rattle.events.specs.declared.Event.{Event}
 use Rattle.events.specs.declared.Event.TheVariants as event
 use Rattle.steps.specs.declared.Answer.{Answer}
-use Rattle.steps.specs.Steps.{quad_of, turn_in, turn_of, id_at, best_event, event_of, outcome_of, stepped, stepped_as}
+use Rattle.steps.specs.declared.Report.TheVariants as report
+use Rattle.verdicts.specs.Rule.{over_rate}
+use Rattle.steps.specs.Steps.{quad_of, turn_in, turn_of, id_at, event_for, best_event, event_of, outcome_of, stepped, stepped_as}
 use Rattle.table.specs.declared.Room.{Room}
 use Rattle.std.specs.Prelude.{Option, Some, None, Ok}
 use Rattle.verdicts.specs.Verdict.{verdict_number}
+
+-- ---- what a verdict reports
+
+-- one that is over its rate, its own event
+pub for_rate : (v : ℕ) → v ≡ over_rate → report.Own event.Ratelimit ≡ event_for v
+unfolding event_for
+for_rate v h = rw h
 
 -- ---- who decides
 
