@@ -5,7 +5,7 @@ ghost use Rattle.std.specs.Prelude.{◌≡◌, true};
 ghost use Rattle.layers.specs.Layers.{shown_of};
 ghost use Rattle.faults.specs.Faults.{fault_of};
 ghost use Rattle.table.specs.Words.{table_in};
-ghost use Rattle.records.specs.Records.{records_of};
+ghost use Rattle.records.specs.Records.{records_of, lent};
 ghost use Rattle.records.specs.Good.{records_good};
 ghost use Rattle.steps.specs.Steps.{arrival};
 ghost use Rattle.firewall.specs.Firewall.{
@@ -26,23 +26,32 @@ pub mod refusal;
 pub use crate::refusal::Refusal;
 use events::ROOM;
 use faults::first_fault;
-use records::RecordWords;
-use records::shape::shape;
+use records::fresh::switch_to;
+use records::good::good;
+use records::shape::{shape, shape_of};
+use records::{Counts, Head, Places, RecordWords};
 use steps::{Answer, step};
 use table::Table;
 use table::words::{ROW_WORDS, ROWS, TableWords, statecount};
 
-// Is the table good, and then the record?
+// Is the table good, and then the record? Of the parts: what changes one of them has no & of the whole.
 #[tactic(auto, unfolding(crate::specs::Firewall::check_of))]
-pub fn check(t: &TableWords, words: &RecordWords) -> Result<(), Refusal>
-    ensures { said_done result ≡ check_of (table_in t.now) words.now }
+fn check_parts(t: &TableWords, head: &Head, counts: &Counts, places: &Places) -> Result<(), Refusal>
+    ensures { said_done result ≡ check_of (table_in t.now) (lent head.now counts.now places.now) }
 {
     first_fault(t)?;
-    if words.is_good(t) {
+    if good(t, head, counts, places) {
         Ok(())
     } else {
         Err(Refusal::BadRecord)
     }
+}
+
+// The same of all words.
+pub fn check(t: &TableWords, words: &RecordWords) -> Result<(), Refusal>
+    ensures { said_done result ≡ check_of (table_in t.now) words.now }
+{
+    check_parts(t, &words.head, &words.counts, &words.places)
 }
 
 // A fresh record: state 0, all else empty or zero.
@@ -57,16 +66,31 @@ pub fn fresh(t: &TableWords, reading: u64, words: &mut RecordWords) -> Result<()
 }
 
 // A switch of vehicle state changes only the active state.
-pub fn switch(t: &TableWords, state: usize, words: &mut RecordWords) -> Result<(), Refusal>
-    ensures { leaves (said_done result) words.new ≡ switch_of (table_in t.now) state words.old }
+// For a caller who may change the head alone: switch_head(&t, state, &mut words.head, &words.counts, &words.places).
+pub fn switch_head(
+    t: &TableWords,
+    state: usize,
+    head: &mut Head,
+    counts: &Counts,
+    places: &Places,
+) -> Result<(), Refusal>
+    ensures { leaves (said_done result) (lent head.new counts.now places.now)
+        ≡ switch_of (table_in t.now) state (lent head.old counts.now places.now) }
 {
-    check(t, words)?;
+    check_parts(t, head, counts, places)?;
     if state >= statecount(t) {
         return Err(Refusal::NoSuchState);
     }
-    shape(*words);
-    words.switch_to(state as u64);
+    shape_of(*head, *counts, *places);
+    switch_to(state as u64, head);
     Ok(())
+}
+
+// The same of all words.
+pub fn switch(t: &TableWords, state: usize, words: &mut RecordWords) -> Result<(), Refusal>
+    ensures { leaves (said_done result) words.new ≡ switch_of (table_in t.now) state words.old }
+{
+    switch_head(t, state, &mut words.head, &words.counts, &words.places)
 }
 
 // A frame judged by a table and a record that were checked. Both facts are clauses and no type: the records change, and then are told anew to be good.

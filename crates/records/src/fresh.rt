@@ -20,6 +20,13 @@ impl<C, P> Words<C, P> {
     }
 }
 
+// Of the head alone: it is all that a switch changes.
+pub fn switch_to(state: u64, head: &mut Head)
+    ensures { head.new ≡ set head.old active_word state }
+{
+    head[ACTIVE] = state;
+}
+
 impl RecordWords {
     #[tactic(auto, unfolding(crate::specs::Records::records_of, crate::specs::Step::fresh_of))]
     pub fn fresh(reading: u64) -> RecordWords
@@ -36,6 +43,6 @@ impl RecordWords {
     pub fn switch_to(&mut self, state: u64)
         ensures { self.new ≡ lent (set self.old.head active_word state) self.old.counts self.old.places }
     {
-        self.head[ACTIVE] = state;
+        switch_to(state, &mut self.head);
     }
 }

@@ -3,7 +3,7 @@ ghost use Rattle.std.specs.Prelude.{◌≡◌, ◌≤◌};
 ghost use Rattle.numbers.specs.Lists.{all_below};
 ghost use Rattle.table.specs.Table.{most_rules};
 ghost use Rattle.table.specs.Words.{table_in};
-ghost use Rattle.records.specs.Records.{rule_records, records_of};
+ghost use Rattle.records.specs.Records.{rule_records, records_of, lent};
 ghost use Rattle.records.specs.Good.{level_from, slots_good, rules_good, records_good};
 
 use crate::*;
@@ -26,34 +26,41 @@ fn no_levels(from: usize, counts: &Counts) -> bool
     any == 0
 }
 
-impl RecordWords {
-    // The slots that have no rule, all together.
-    fn is_empty_from(&self, from: usize) -> bool
-        requires { from ≤ most_rules }
-        ensures { result ≡ slots_good from self.now.counts self.now.places }
-    {
-        no_levels(from, &self.counts) && good_beyond(from, &self.places)
-    }
+// The slots that have no rule, all together.
+fn is_empty_from(from: usize, counts: &Counts, places: &Places) -> bool
+    requires { from ≤ most_rules }
+    ensures { result ≡ slots_good from counts.now places.now }
+{
+    no_levels(from, counts) && good_beyond(from, places)
+}
 
-    fn has_good_rules(&self, t: &TableWords) -> bool
-        ensures { result ≡ rules_good (table_in t.now) (rule_records self.now.counts self.now.places) }
-    {
-        let n = rulecount(t).min(RULES);
-        // By the index, which is one of three arrays.
-        for i in 0..n {
-            if !good_rule(&t[i], &self.counts[i], &self.places[i]) {
-                return false;
-            }
+fn has_good_rules(t: &TableWords, counts: &Counts, places: &Places) -> bool
+    ensures { result ≡ rules_good (table_in t.now) (rule_records counts.now places.now) }
+{
+    let n = rulecount(t).min(RULES);
+    // By the index, which is one of three arrays.
+    for i in 0..n {
+        if !good_rule(&t[i], &counts[i], &places[i]) {
+            return false;
         }
-        self.is_empty_from(n)
     }
+    is_empty_from(n, counts, places)
+}
 
+// For a caller who has the three parts, and no struct of them.
+pub fn good(t: &TableWords, head: &Head, counts: &Counts, places: &Places) -> bool
+    ensures { result ≡ records_good (table_in t.now) (records_of (lent head.now counts.now places.now)) }
+{
+    let states = statecount(t) as u64;
+    head[ACTIVE] < states
+        && has_good_rules(t, counts, places)
+        && good_levels(None, &counts[DEFAULT])
+}
+
+impl RecordWords {
     pub fn is_good(&self, t: &TableWords) -> bool
         ensures { result ≡ records_good (table_in t.now) (records_of self.now) }
     {
-        let states = statecount(t) as u64;
-        self.head[ACTIVE] < states
-            && self.has_good_rules(t)
-            && good_levels(None, &self.counts[DEFAULT])
+        good(t, &self.head, &self.counts, &self.places)
     }
 }

@@ -1,5 +1,5 @@
 // Time passes: elapsed, levels that fall, ages that rise.
-ghost use Rattle.std.specs.Prelude.{◌≡◌, ◌≤◌};
+ghost use Rattle.std.specs.Prelude.{◌≡◌, ◌-◌, ◌≤◌};
 ghost use Rattle.numbers.specs.Lists.{each};
 ghost use Rattle.table.specs.Table.{rules_of as table_rules, most_rules};
 ghost use Rattle.table.specs.Words.{table_in};
@@ -11,6 +11,13 @@ ghost use Rattle.records.specs.Good.{MayTick};
 use crate::*;
 use table::words::{TableWords, rulecount};
 use verdicts::ageing::age_rule;
+
+// A clock that stands or went back has let no time pass.
+fn elapsed_of(reading: u64, last: u64) -> u64
+    ensures { result ≡ reading - last }
+{
+    reading.saturating_sub(last)
+}
 
 impl RecordWords {
     fn age_rules(&mut self, t: &TableWords, elapsed: u64)
@@ -29,7 +36,7 @@ impl RecordWords {
         requires { MayTick (table_in t.now) (records_of self.old) }
         ensures { records_of self.new ≡ ticked (table_in t.now) reading (records_of self.old) }
     {
-        let elapsed = reading.saturating_sub(self.head[LAST]);
+        let elapsed = elapsed_of(reading, self.head[LAST]);
         self.head[LAST] = reading;
         if elapsed == 0 {
             return;
