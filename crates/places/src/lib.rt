@@ -47,7 +47,7 @@ pub const AGE_BIT: u64 = 16;
 pub const HALF: u64 = 4294967296;
 
 // A conversation: its socket, the addresses, of one kind, and both ports, source x 65,536 + destination, as this direction shows them.
-// The ports differ most often: they stand first, so that they are compared first.
+// The ports differ most often: they stand first, and `same_quad` compares them first.
 #[derive(Clone, Copy, PartialEq, Eq)]
 pub struct Quad {
     pub ports: u32,
