@@ -49,10 +49,13 @@ pub(crate) fn changed<F: FnOnce(Rule) -> Rule>(k: usize, change: F) -> Table
     t
 }
 
-// Each with one change that is a fault.
-fn spoiled() -> [(&'static str, Table); 7] {
-    [
-        (
+// How many there are of the next.
+const SPOILED: usize = 7;
+
+// One change that is a fault: by its number and not as a list, so that one table is held at a time.
+fn spoiled(k: usize) -> (&'static str, Table) {
+    match k {
+        0 => (
             "rule 10 with VLAN id 4095",
             changed(
                 0,
@@ -65,7 +68,7 @@ fn spoiled() -> [(&'static str, Table); 7] {
                 },
             ),
         ),
-        (
+        1 => (
             "rule 10 with IPv6 protocol 17 too",
             changed(
                 0,
@@ -78,7 +81,7 @@ fn spoiled() -> [(&'static str, Table); 7] {
                 },
             ),
         ),
-        (
+        2 => (
             "rule 20 blocks",
             changed(
                 1,
@@ -88,7 +91,7 @@ fn spoiled() -> [(&'static str, Table); 7] {
                 },
             ),
         ),
-        (
+        3 => (
             "rule 30 without its refill",
             changed(
                 2,
@@ -101,7 +104,7 @@ fn spoiled() -> [(&'static str, Table); 7] {
                 },
             ),
         ),
-        (
+        4 => (
             "rule 40 without its kind",
             changed(
                 3,
@@ -114,24 +117,25 @@ fn spoiled() -> [(&'static str, Table); 7] {
                 },
             ),
         ),
-        (
+        5 => (
             "rule 40 with the id of rule 10",
             changed(3, |r| Rule { id: 10, ..r }),
         ),
-        (
+        _ => (
             "no vehicle state",
             Table {
                 statecount: 0,
                 ..table()
             },
         ),
-    ]
+    }
 }
 
 // A fresh record asked of each, and what is answered.
 pub(crate) fn tables(rt: &impl Print) -> io::Result<()> {
     println!(rt; "\nwhich setting is at fault, the table with one change")?;
-    for (what, t) in spoiled() {
+    for k in 0..SPOILED {
+        let (what, t) = spoiled(k);
         let w = laid(t);
         match firewall::fresh(&w, 0, &mut RecordWords::fresh(0)) {
             Ok(()) => println!(rt; "     {what:<39}good"),
